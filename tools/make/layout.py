@@ -43,7 +43,7 @@ WORDS = [
 # the fields of the definition's station that numbers stand for, of the numbers n
 FIELDS = {
     "me": "layout.me n",
-    "own_data": "data_in (own_at n)",
+    "own_data": "fields_in (own_at n)",
     "config": "settings_at n",
     "scheduled": "eqb (layout.timers_scheduled n) 1",
     "next_interval": "layout.next_shuffle_interval n",
@@ -433,7 +433,7 @@ CODE_TEST = {"set": "base_util::is_section", "numbers": "base_columns::numbers_v
 
 
 def sections_valid():
-    lines = ["fn sections_valid(st: &[u64]) -> bool", "    requires { length st.now ≡ words }", "    ensures { result ≡ sections_ok st.now }", "{"]
+    lines = ["fn sections_valid(st: &Words) -> bool", "    ensures { result ≡ sections_ok st.now }", "{"]
     for i, (name, kind, _) in enumerate(SECTIONS):
         code = name.upper()
         words = [f"&st[Layout::{code}..Layout::{code}_END]", f"Layout::{code}_PLACES"]
@@ -569,7 +569,7 @@ def kept_out():
 
 # what `unpack_pack` says of the fields that numbers stand for, where it is not by computing
 OUT = {
-    "own_data": "(ap data_in (own_words g.own_data v.own_data v.own_bytes) ∙ own_padded g.own_data v.own_data) i",
+    "own_data": "(ap fields_in (own_words g.own_data v.own_data v.own_bytes) ∙ own_padded g.own_data v.own_data) i",
     "scheduled": "bool_back g.scheduled i",
     "refill": "limit_out g.refill i",
 }

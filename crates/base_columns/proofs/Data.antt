@@ -4,7 +4,7 @@ use Prim.Native.Nat.{ℕ, ◌+◌, ◌-◌, ◌≤◌, ◌<◌}
 use mathlib.Core.Path.{◌≡◌, refl, sym, ap, ◌∙◌, subst}
 use mathlib.Core.Bool.{Bool, true, ◌||◌}
 use mathlib.Core.List.{List, ◌++◌}
-use mathlib.Core.Option.{none, some}
+use mathlib.Core.Option.{some}
 use native.Mathlib.Omega.{arith}
 use lib.ListN.{length, take, drop, get_or, set, length-set, length-drop, take-append-drop}
 use lib.Seq.{length-take-le, take-take, take_all, take-set-lt, get_or-take, get_or-set_other}
@@ -21,10 +21,10 @@ use Rattle.base_lists.proofs.Array.{length_pad, set_pad, length_shift_remove, le
 use Rattle.base_lists.proofs.Entries.{Entries, entries_keys, entries_length, entries_taken, entries_found, entries_none, entries_each, entries_room, entries_cut, entries_replace, entries_insert}
 use Rattle.base_peer.specs.declared.PeerData.{PeerData}
 use Rattle.base_peer.specs.Data.{bytes_of}
-use Rattle.base_peer.specs.Held.{data_in, ValidData, HoldsData}
+use Rattle.std.specs.Prelude.{Some, None}
+use Rattle.base_peer.specs.Held.{data_in}
 use Rattle.base_peer.specs.Maps.{DataEntry, no_data, entry_bytes, ValidEntry}
-use Rattle.base_peer.proofs.Data.{bytes_in, holds_some}
-use Rattle.base_peer.proofs.Maps.{unread, length_entry}
+use Rattle.base_peer.proofs.Maps.{unread}
 use Rattle.base_util.specs.Section.{part, Filled}
 use Rattle.base_columns.specs.Columns.{Two, word_bytes, row, rows, head_of, tail_of, count_of, entries_at, data_map_at, ValidDataWords, HoldsDataWords}
 use Rattle.base_util.proofs.Columns.{filled_of, filled_length}
@@ -135,19 +135,20 @@ data_held n m us ws c ks bs cs ds l s a b p q r o h e =
 
 -- ---- bytes and words
 
-pub bytes_back : (d : PeerData) (low high : ℕ) → ValidData d → le 8 low ≡ take 8 (drop 0 d.bytes) → le 8 high ≡ take 8 (drop 8 d.bytes) → word_bytes low high ≡ d.bytes
+pub bytes_back : (d : PeerData) (low high : ℕ) → le 8 low ≡ take 8 (drop 0 d.bytes) → le 8 high ≡ take 8 (drop 8 d.bytes) → word_bytes low high ≡ d.bytes
 unfolding word_bytes
-bytes_back d low high v p q =
-    let l : length d.bytes ≡ 16 = ap length v.packed ∙ length_pad 0 16 _ in
+bytes_back d low high p q =
+    let l : length d.bytes ≡ 16 = ap length d.packed ∙ length_pad 0 16 _ in
     let r : take 8 (drop 8 d.bytes) ≡ drop 8 d.bytes = take_all 8 (drop 8 d.bytes) (omega (arith, length-drop 8 d.bytes)) in
     (λ i. p i ++ q i) ∙ ap (λ (t : List ℕ). take 8 d.bytes ++ t) r ∙ take-append-drop 8 d.bytes
 
-module _ (d : PeerData) (low high : ℕ) (v : ValidData d) (e : word_bytes low high ≡ d.bytes) where
+module _ (d : PeerData) (low high : ℕ) (e : word_bytes low high ≡ d.bytes) where
   row_valid : ValidEntry (row d.len low high)
-  row_valid = record { fits = v.fits; packed = subst (λ (b : List ℕ). b ≡ pad 0 16 (take d.len b)) (sym e) v.packed }
+  row_valid = record { fits = d.fits; packed = subst (λ (b : List ℕ). b ≡ pad 0 16 (take d.len b)) (sym e) d.packed }
 
-  row_value : entry_bytes (row d.len low high) ≡ bytes_of (data_in d)
-  row_value = ap (take d.len) e ∙ sym (bytes_in d v)
+  row_value : entry_bytes (row d.len low high) ≡ bytes_of (data_in (Some d))
+  unfolding data_in bytes_of
+  row_value = ap (take d.len) e
 
 -- ---- a word of a half
 
@@ -241,28 +242,28 @@ module _ (n : ℕ) (m : List ℕ) (v : ValidDataWords n m) where
         (entries_cut no_data n entry_bytes ValidEntry _ _ _ _ (data_entries n m v) p i _ _ (count_of n m - 1) data_at_key h refl
         (ap (pad no_data n) (shift_rows i _ _ _ (lows_like n m v) (highs_like n m v) ∙ ap (shift_remove i) (sym (taken_rows n m v)))) (omega arith))
 
-    module _ (d : PeerData) (low high : ℕ) (w : ValidData d) (f : le 8 low ≡ take 8 (drop 0 d.bytes)) (g : le 8 high ≡ take 8 (drop 8 d.bytes)) where
+    module _ (d : PeerData) (low high : ℕ) (f : le 8 low ≡ take 8 (drop 0 d.bytes)) (g : le 8 high ≡ take 8 (drop 8 d.bytes)) where
       pub data_inserted : (a : ℕ) (ys zs : List ℕ) → count_of n m ≤ i → (has p (data_map_at n m) || ltb (length (data_map_at n m)) n) ≡ true → a ≡ rank p (take (count_of n m) m)
           → Two n ys (insert_at a p (take (count_of n m) (part 0 n (head_of n m)))) (insert_at a d.len (take (count_of n m) (part n n (head_of n m))))
           → Two n zs (insert_at a low (take (count_of n m) (part 0 n (part (n + n) (n + n + (n + n) - (n + n)) (put_mid 0 (n + n) m ys))))) (insert_at a high (take (count_of n m) (part n n (part (n + n) (n + n + (n + n) - (n + n)) (put_mid 0 (n + n) m ys)))))
-          → HoldsDataWords n (set (put_mid (n + n) (n + n + (n + n) - (n + n)) (put_mid 0 (n + n) m ys) zs) (n + n + (n + n)) (count_of n m + 1)) (put p (bytes_of (data_in d)) (data_map_at n m))
+          → HoldsDataWords n (set (put_mid (n + n) (n + n + (n + n) - (n + n)) (put_mid 0 (n + n) m ys) zs) (n + n + (n + n)) (count_of n m + 1)) (put p (bytes_of (data_in (Some d))) (data_map_at n m))
       data_inserted a ys zs h t r x b =
-          let k = bytes_back d low high w f g in
+          let k = bytes_back d low high f g in
           let u : Two n zs (insert_at a low (take (count_of n m) (part 0 n (tail_of n m)))) (insert_at a high (take (count_of n m) (part n n (tail_of n m)))) =
           subst (λ (s : List ℕ). Two n zs (insert_at a low (take (count_of n m) (part 0 n s))) (insert_at a high (take (count_of n m) (part n n s)))) (tail_is ys _ _ x) b in
           let z : (y : ℕ) (s : List ℕ) → Filled s (count_of n m) → count_of n m + 1 ≡ length (insert_at a y (take (count_of n m) s)) =
           λ y s o. omega (arith, filled_length s (count_of n m) o, length_insert_at a y (take (count_of n m) s)) in
           data_held n _ ys zs (count_of n m + 1) _ _ _ _ _ (stored ys _ _ x zs _ _ (count_of n m + 1) u) x u
           (z p _ v.keyed) (z d.len _ v.lens) (z low _ v.lows) (z high _ v.highs) (omega (arith, data_room h t))
-          (entries_insert no_data n entry_bytes ValidEntry _ _ _ _ (data_entries n m v) p (bytes_of (data_in d)) a (row d.len low high) _ _ (r ∙ ap (rank p) (peers_lent n m v))
-          (subst (λ (j : ℕ). count_of n m ≤ j) data_at_key h) (data_room h t) (row_valid d low high w k) (row_value d low high w k) refl
+          (entries_insert no_data n entry_bytes ValidEntry _ _ _ _ (data_entries n m v) p (bytes_of (data_in (Some d))) a (row d.len low high) _ _ (r ∙ ap (rank p) (peers_lent n m v))
+          (subst (λ (j : ℕ). count_of n m ≤ j) data_at_key h) (data_room h t) (row_valid d low high k) (row_value d low high k) refl
           (ap (pad no_data n) (insert_rows a d.len low high _ _ _ (lows_like n m v) (highs_like n m v) ∙ ap (insert_at a (row d.len low high)) (sym (taken_rows n m v)))))
 
       -- the words of the entry are stored over
-      pub data_replaced : i < count_of n m → HoldsDataWords n (set (set (set m (n + i) d.len) (n + n + i) low) (n + n + n + i) high) (put p (bytes_of (data_in d)) (data_map_at n m))
+      pub data_replaced : i < count_of n m → HoldsDataWords n (set (set (set m (n + i) d.len) (n + n + i) low) (n + n + n + i) high) (put p (bytes_of (data_in (Some d))) (data_map_at n m))
       unfolding head_of tail_of
       data_replaced h =
-          let k = bytes_back d low high w f g in
+          let k = bytes_back d low high f g in
           let y = v.fits in
           let y' = v.long in
           let c : ℕ = count_of n m in
@@ -291,15 +292,15 @@ module _ (n : ℕ) (m : List ℕ) (v : ValidDataWords n m) where
             first = part_set_after 0 n (n + i) high (set (part (n + n) (n + n) m) i low) (omega arith) ∙ first_set n (part (n + n) (n + n) m) i low (omega arith) ∙ over _ low (lows_long n m v) v.lows;
             second = part_set_in n n i high (set (part (n + n) (n + n) m) i low) (omega arith) ∙ ap (λ (t : List ℕ). set t i high) (part_set_before n n i low (part (n + n) (n + n) m) (omega arith)) ∙ over _ high (highs_long n m v) v.highs;
           } in
-          let x = entries_replace no_data n entry_bytes ValidEntry _ _ _ _ (data_entries n m v) p (bytes_of (data_in d)) i (row d.len low high) data_at_key h (row_valid d low high w k) (row_value d low high w k) in
+          let x = entries_replace no_data n entry_bytes ValidEntry _ _ _ _ (data_entries n m v) p (bytes_of (data_in (Some d))) i (row d.len low high) data_at_key h (row_valid d low high k) (row_value d low high k) in
           let e₁ : set (entries_at n m) i (row d.len low high) ≡ pad no_data n (rows (set (take c (part n n (head_of n m))) i d.len) (set (take c (part 0 n (tail_of n m))) i low) (set (take c (part n n (tail_of n m))) i high)) =
           ap (λ (t : List DataEntry). set t i (row d.len low high)) (data_entries n m v).packed
           ∙ set_pad no_data n (take c (entries_at n m)) i (row d.len low high) (omega (arith, entries_taken no_data n entry_bytes ValidEntry _ _ _ _ (data_entries n m v)))
           ∙ ap (pad no_data n) (ap (λ (t : List DataEntry). set t i (row d.len low high)) (taken_rows n m v) ∙ sym (set_rows i d.len low high _ _ _)) in
           let z : (t : List ℕ) (j : ℕ) → Filled t c → c ≡ length (set (take c t) i j) = λ t j o. sym (length-set (take c t) i j ∙ filled_length t c o) in
           data_held n r us ws c _ _ _ _ _ s a b (sym (filled_length _ _ v.keyed)) (z _ d.len v.lens) (z _ low v.lows) (z _ high v.highs) v.fits
-          (subst (λ (t : List DataEntry). Entries no_data n entry_bytes ValidEntry (pad 0 n (take c (part 0 n (head_of n m)))) t c (put p (bytes_of (data_in d)) (data_map_at n m))) e₁
-          (subst (λ (t : List ℕ). Entries no_data n entry_bytes ValidEntry t (set (entries_at n m) i (row d.len low high)) c (put p (bytes_of (data_in d)) (data_map_at n m))) (filled_to n _ c (keys_long n m v) v.keyed) x))
+          (subst (λ (t : List DataEntry). Entries no_data n entry_bytes ValidEntry (pad 0 n (take c (part 0 n (head_of n m)))) t c (put p (bytes_of (data_in (Some d))) (data_map_at n m))) e₁
+          (subst (λ (t : List ℕ). Entries no_data n entry_bytes ValidEntry t (set (entries_at n m) i (row d.len low high)) c (put p (bytes_of (data_in (Some d))) (data_map_at n m))) (filled_to n _ c (keys_long n m v) v.keyed) x))
 
     -- ---- a read
 
@@ -324,12 +325,13 @@ module _ (n : ℕ) (m : List ℕ) (v : ValidDataWords n m) where
     pub data_looked : i < count_of n m → lookup p (data_map_at n m) ≡ some (entry_bytes (row (get_or m (n + i) 0) (get_or m (n + n + i) 0) (get_or m (n + n + n + i) 0)))
     data_looked h = entries_found no_data n entry_bytes ValidEntry _ _ _ _ (data_entries n m v) p i unread data_at_key h ∙ ap (λ (r : DataEntry). some (entry_bytes r)) (row_at h)
 
-    pub data_found : (b : List ℕ) → b ≡ word_bytes (get_or m (n + n + i) 0) (get_or m (n + n + n + i) 0) → i < count_of n m → HoldsData (record { present = true; len = get_or m (n + i) 0; bytes = b }) (lookup p (data_map_at n m))
-    data_found b q h =
-        let r : DataEntry = row (get_or m (n + i) 0) (get_or m (n + n + i) 0) (get_or m (n + n + n + i) 0) in
-        let f = row_fine h in
-        subst (HoldsData (record { present = true; len = get_or m (n + i) 0; bytes = b })) (sym (data_looked h))
-        (holds_some (entry_bytes r) b r.len (q ∙ f.packed) (sym (length_entry r f)) (subst (λ (j : ℕ). j ≤ 16) (sym (length_entry r f)) f.fits))
+    pub bytes_packed : (b : List ℕ) → b ≡ word_bytes (get_or m (n + n + i) 0) (get_or m (n + n + n + i) 0) → i < count_of n m → b ≡ pad 0 16 (take (get_or m (n + i) 0) b)
+    bytes_packed b q h = subst (λ (t : List ℕ). t ≡ pad 0 16 (take (get_or m (n + i) 0) t)) (sym q) (row_fine h).packed
 
-    pub data_missing : (d : PeerData) → count_of n m ≤ i → HoldsData d none → HoldsData d (lookup p (data_map_at n m))
-    data_missing d h w = subst (HoldsData d) (sym (entries_none no_data n entry_bytes ValidEntry _ _ _ _ (data_entries n m v) p i data_at_key h)) w
+    pub data_found : (d : PeerData) → d.len ≡ get_or m (n + i) 0 → d.bytes ≡ word_bytes (get_or m (n + n + i) 0) (get_or m (n + n + n + i) 0) → i < count_of n m → data_in (Some d) ≡ lookup p (data_map_at n m)
+    unfolding data_in
+    data_found d a q h = (λ j. some (take (a j) (q j))) ∙ sym (data_looked h)
+
+    pub data_missing : count_of n m ≤ i → data_in None ≡ lookup p (data_map_at n m)
+    unfolding data_in
+    data_missing h = sym (entries_none no_data n entry_bytes ValidEntry _ _ _ _ (data_entries n m v) p i data_at_key h)

@@ -20,8 +20,8 @@ use Rattle.base_lists.proofs.Choice.{and_left, and_right}
 use Rattle.base_lists.proofs.Tests.{both_true, rising_true, true_rising, packed_true, true_packed}
 use Rattle.base_lists.proofs.Zip.{keys_zip}
 use Rattle.base_lists.proofs.Entries.{Entries, entries_keys, entries_length, entries_found, entries_none, entries_room, entries_cut, entries_cut_none, entries_replace, entries_insert}
+use Rattle.std.specs.Prelude.{Some, None}
 use Rattle.base_peer.specs.Maps.{number_in}
-use Rattle.base_peer.specs.declared.Number.TheVariants.{Absent, Is}
 use Rattle.base_peer.proofs.Maps.{itself, Any, all_any, map_itself}
 use Rattle.base_scan.specs.Words.{unused}
 use Rattle.base_util.specs.Section.{part, Filled}
@@ -127,12 +127,12 @@ module _ (n : ℕ) (m : List ℕ) (v : ValidNumbers n m) where
     pub number_fits : get_or m (n + n) 0 ≤ i → (has p (numbers_at n m) || ltb (length (numbers_at n m)) n) ≡ true → get_or m (n + n) 0 < length (part 0 n m)
     number_fits h t = omega (arith, number_room h t, part_long 0 n m (omega (arith, v.long)))
 
-    pub number_found : i < get_or m (n + n) 0 → number_in (Is (get_or m (n + i) 0)) ≡ lookup p (numbers_at n m)
+    pub number_found : i < get_or m (n + n) 0 → number_in (Some (get_or m (n + i) 0)) ≡ lookup p (numbers_at n m)
     unfolding number_in
     number_found h =
         ap some (sym (part_read n n i m (omega (arith, v.fits)))) ∙ sym (entries_found 0 n itself Any _ _ _ _ (number_entries n m v) p i 0 at_key h)
 
-    pub number_none : get_or m (n + n) 0 ≤ i → number_in Absent ≡ lookup p (numbers_at n m)
+    pub number_none : get_or m (n + n) 0 ≤ i → number_in None ≡ lookup p (numbers_at n m)
     unfolding number_in
     number_none h = sym (entries_none 0 n itself Any _ _ _ _ (number_entries n m v) p i at_key h)
 

@@ -2,7 +2,7 @@
 -- Assumes nothing.
 use Prim.Native.Nat.{ℕ, zero, suc, ◌+◌, ◌*◌, ◌-◌, ◌/◌, ◌%◌, ◌^◌, ◌≤◌, ◌<◌}
 use mathlib.Core.Path.{◌≡◌, refl, sym, ap, ◌∙◌}
-use mathlib.Core.Bool.{Bool, true, false, ◌&&◌, and_assoc}
+use mathlib.Core.Bool.{Bool, true, false, ◌&&◌}
 use mathlib.Core.List.{List, [], ◌∷◌, ◌++◌}
 use native.Mathlib.Nat.{div-lt_iff_lt-mul, pow-suc, not-suc-le-zero}
 use native.Mathlib.Omega.{arith}
@@ -15,14 +15,10 @@ use Rattle.base_lists.specs.Tests.{every, packed}
 use Rattle.base_lists.proofs.Bytes.{length_le}
 use Rattle.base_lists.proofs.Choice.{split}
 use Rattle.base_lists.proofs.Table.{at}
+use Rattle.base_lists.proofs.Tests.{every_append}
 use Rattle.base_peer.specs.Held.{zero_byte}
 use Rattle.base_peer.specs.Maps.{valid_entry}
 use Rattle.base_columns.specs.Columns.{words_end, word_bytes, row}
-
-every_append : (xs ys : List ℕ) → every zero_byte (xs ++ ys) ≡ (every zero_byte xs && every zero_byte ys)
-unfolding every
-every_append [] ys = refl
-every_append (x ∷ xs) ys = ap (λ (b : Bool). zero_byte x && b) (every_append xs ys) ∙ sym (and_assoc (zero_byte x) (every zero_byte xs) (every zero_byte ys))
 
 -- a number is zero where its remainder and its quotient are
 zero_both : (w : ℕ) → (eqb (w % 256) 0 && eqb (w / 256) 0) ≡ eqb w 0
@@ -99,7 +95,7 @@ module _ (l w x : ℕ) where
   unfolding word_bytes
   row_short h a b =
       sym (tested (omega arith) ∙ ap (every zero_byte) (drop-append-le l (le 8 w) (le 8 x) (omega (arith, length_le 8 w)))
-      ∙ every_append (drop l (le 8 w)) (le 8 x) ∙ (λ i. past_word 8 l w (omega arith) a i && zero_word 8 x b i)
+      ∙ every_append zero_byte (drop l (le 8 w)) (le 8 x) ∙ (λ i. past_word 8 l w (omega arith) a i && zero_word 8 x b i)
       ∙ ap (λ (q : ℕ). ltb w q && eqb x 0) (sym (power l h)))
 
   pub row_long : 8 ≤ l → l < 16 → x < words_end → ltb x (shifted (l - 8)) ≡ valid_entry (row l w x)

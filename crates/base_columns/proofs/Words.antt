@@ -5,10 +5,16 @@ use mathlib.Core.Path.{◌≡◌, refl, sym, ap, ◌∙◌}
 use mathlib.Core.List.{List, [], ◌∷◌, ◌++◌, append-nil}
 use native.Mathlib.Nat.{mod-add-div, div-lt_iff_lt-mul, pow-suc}
 use native.Mathlib.Omega.{arith}
-use lib.ListN.{length, get_or, take, drop, length-append, length-drop, take-append-drop}
-use lib.Seq.{drop-cons, take_all, get_or-append_seam, append_snoc}
+use native.Mathlib.Decide.{dec_lt}
+use mir.Syntax.{w8, w64}
+use mir.Val.{Fits}
+use lib.ListN.{length, get_or, take, drop, length-append, length-take, length-drop, take-append-drop, get_or-eq_default}
+use lib.Seq.{drop-cons, drop_at, take_at, take_all, length-take-le, get_or-take, get_or-drop, get_or-append_seam, append_snoc}
+use borrow.Rule.Slice.PartMut.{put_mid}
+use Rattle.std.specs.Int.{from_le_bytes, to_le_bytes}
+use Rattle.std.proofs.lemmas.Nat.{le_bytes_8}
 use Rattle.base_lists.specs.Bytes.{le, read_le}
-use Rattle.base_lists.proofs.Bytes.{length_le}
+use Rattle.base_lists.proofs.Bytes.{length_le, low_bytes}
 use Rattle.base_columns.specs.Columns.{words_end, word_bytes}
 
 -- ---- a byte more
@@ -60,3 +66,22 @@ module _ (w x : ℕ) (h : w < words_end) (k : x < words_end) where
   pub word_high : read_le 8 (word_bytes w x) 8 ≡ x
   unfolding word_bytes
   word_high = ap (λ (l : List ℕ). read_le 8 (le 8 w ++ l) 8) (sym (append-nil (le 8 x))) ∙ read_word 8 x (le 8 w) [] 8 (sym (length_le 8 w)) k
+
+-- ---- as the library reads and writes the bytes of a word
+
+small : (b : List ℕ) (at : ℕ) → ((k : ℕ) → Fits w8 (get_or b k 0)) → (i : ℕ) → Dec (i < 8) → get_or (take 8 (drop at b)) i 0 < 256
+small b at f i (yes p) = let e : get_or (take 8 (drop at b)) i 0 ≡ get_or b (at + i) 0 = get_or-take 8 (drop at b) i 0 p ∙ get_or-drop at b i 0 in omega (arith, e, (f (at + i)).fits)
+small b at f i (no p) = let e : get_or (take 8 (drop at b)) i 0 ≡ 0 = get_or-eq_default (take 8 (drop at b)) 0 (omega (arith, length-take 8 (drop at b))) in omega (arith, e)
+
+pub word_read : (b : List ℕ) (at r : ℕ) (ws : List ℕ) → ws ≡ take 8 (drop at b) → length b ≡ 16 → at ≤ 8 → ((k : ℕ) → Fits w8 (get_or b k 0)) → r ≡ from_le_bytes w64 ws → le 8 r ≡ take 8 (drop at b)
+word_read b at r ws e l h f q =
+    let n : length (take 8 (drop at b)) ≡ 8 = length-take-le 8 (drop at b) (omega (arith, l, length-drop at b)) in
+    sym (low_bytes 8 r) ∙ le_bytes_8 (take 8 (drop at b)) r n (λ i. small b at f i (dec_lt i 8)) (q ∙ ap (from_le_bytes w64) e)
+
+pub words_stored : (w x : ℕ) (ys zs : List ℕ) → ys ≡ to_le_bytes w64 w → zs ≡ to_le_bytes w64 x → put_mid 8 8 (ys ++ (0 ∷ 0 ∷ 0 ∷ 0 ∷ 0 ∷ 0 ∷ 0 ∷ 0 ∷ [])) zs ≡ word_bytes w x
+unfolding word_bytes
+words_stored w x ys zs e f =
+    let p : ys ≡ le 8 w = e ∙ low_bytes 8 w in
+    let n : length ys ≡ 8 = ap length p ∙ length_le 8 w in
+    let o : List ℕ = 0 ∷ 0 ∷ 0 ∷ 0 ∷ 0 ∷ 0 ∷ 0 ∷ 0 ∷ [] in
+    (λ j. take_at ys o 8 n j ++ (zs ++ drop 8 (drop_at ys o 8 n j))) ∙ (λ j. p j ++ append-nil ((f ∙ low_bytes 8 x) j) j)

@@ -1,12 +1,13 @@
 // Maps by peer as sections of one lent list of 64-bit words: columns of `cap` places in rising order of the peers, and then the count of those in use.
+// The columns are apart, and no list of pairs, as the layout that the documents fix for C has them.
 #![tactic(auto)]
 
-ghost use Rattle.std.specs.Prelude.{◌≡◌, true, ◌||◌, ◌+◌, ◌≤◌, ◌<◌, length, take, drop, ltb};
-ghost use Rattle.base_lists.specs.Lists.{shift_remove, insert_at, subset};
+ghost use Rattle.std.specs.Prelude.{◌≡◌, true, ◌||◌, ◌+◌, ◌≤◌, ◌<◌, length, take, drop, get_or, ltb, Some};
+ghost use Rattle.base_lists.specs.Lists.{mem, shift_remove, insert_at, subset};
 ghost use Rattle.base_lists.specs.Maps.{keys, has, lookup, cut, retain, put};
 ghost use Rattle.base_lists.specs.Bytes.{le};
 ghost use Rattle.base_peer.specs.Data.{bytes_of, holds};
-ghost use Rattle.base_peer.specs.Held.{data_in, ValidData, HoldsData};
+ghost use Rattle.base_peer.specs.Held.{data_in};
 ghost use Rattle.base_peer.specs.Maps.{number_in, valid_entry};
 ghost use Rattle.base_util.specs.Section.{part, working_places, Filled, items_at, ValidSet, HoldsSet, BecomesSet};
 ghost use Rattle.base_columns.specs.Columns.{active_places, known_places, known_peers};
@@ -14,7 +15,7 @@ ghost use Rattle.base_columns.specs.Columns.{numbers_at, ValidNumbers, valid_num
 ghost use Rattle.base_columns.specs.Columns.{words_end, word_length, word_bytes, row, data_map_at, ValidDataWords};
 ghost use Rattle.base_columns.specs.Columns.{valid_data_words, ChangesData};
 
-use base_peer::{Number, PeerData, PeerId};
+use base_peer::{PeerData, PeerId};
 
 // ---- two columns of cap places
 
@@ -60,13 +61,7 @@ pub fn word_at(b: [u8; PeerData::BYTES], at: usize) -> u64
     requires { at ≤ word_length }
     ensures { (le word_length result ≡ take word_length (drop at b)) × (result < words_end) }
 {
-    let mut r: u64 = 0;
-    let mut i: usize = WORD;
-    while 0 < i {
-        i -= 1;
-        r = b[at + i] as u64 + 256 * r;
-    }
-    r
+    u64::from_le_bytes(*b[at..].first_chunk().unwrap())
 }
 
 // The bytes of two words, the lowest first.
@@ -74,17 +69,19 @@ pub fn bytes_of(w: u64, x: u64) -> [u8; PeerData::BYTES]
     ensures { result ≡ word_bytes w x }
 {
     let mut bytes = [0u8; PeerData::BYTES];
-    let mut low = w;
-    let mut high = x;
-    let mut i: usize = 0;
-    while i < WORD {
-        bytes[i] = (low % 256) as u8;
-        bytes[i + WORD] = (high % 256) as u8;
-        low = low / 256;
-        high = high / 256;
-        i += 1;
-    }
+    bytes[..WORD].copy_from_slice(&w.to_le_bytes());
+    bytes[WORD..].copy_from_slice(&x.to_le_bytes());
     bytes
+}
+
+// Whether p is among the peers of a map whose count stands at `end`.
+fn has_key(m: &[u64], end: usize, p: PeerId) -> bool
+    requires end_in_bounds { end < length m.now }
+    requires count_in_bounds { get_or m.now end 0 ≤ length m.now }
+    ensures { result ≡ mem p (take (get_or m.now end 0) m.now) }
+{
+    let n = m[end] as usize;
+    base_scan::is_in(&m[..n], p)
 }
 
 // ---- a map of numbers: the peers, their numbers, and then the count
@@ -93,22 +90,17 @@ pub fn contains_number(m: &[u64], cap: usize, p: PeerId) -> bool
     requires { ValidNumbers cap m.now }
     ensures { result ≡ has p (numbers_at cap m.now) }
 {
-    let end = cap + cap;
-    let n = m[end] as usize;
-    base_scan::is_in(&m[..n], p)
+    has_key(m, cap + cap, p)
 }
 
-pub fn get_number(m: &[u64], cap: usize, p: PeerId) -> Number
+pub fn get_number(m: &[u64], cap: usize, p: PeerId) -> Option<u64>
     requires { ValidNumbers cap m.now }
     ensures { number_in result ≡ lookup p (numbers_at cap m.now) }
 {
     let end = cap + cap;
     let n = m[end] as usize;
     let i = base_util::find(m, n, p);
-    if i < n {
-        return Number::Is(m[cap + i]);
-    }
-    Number::Absent
+    if i < n { Some(m[cap + i]) } else { None }
 }
 
 pub fn remove_number(m: &mut [u64], cap: usize, p: PeerId)
@@ -185,36 +177,29 @@ pub fn contains_data(m: &[u64], cap: usize, p: PeerId) -> bool
     ensures { result ≡ has p (data_map_at cap m.now) }
 {
     let half = cap + cap;
-    let end = half + half;
-    let n = m[end] as usize;
-    base_scan::is_in(&m[..n], p)
+    has_key(m, half + half, p)
 }
 
-pub fn get_data(m: &[u64], cap: usize, p: PeerId) -> PeerData
+pub fn get_data(m: &[u64], cap: usize, p: PeerId) -> Option<PeerData>
     requires { ValidDataWords cap m.now }
-    ensures { HoldsData result (lookup p (data_map_at cap m.now)) }
+    ensures { data_in result ≡ lookup p (data_map_at cap m.now) }
 {
     let half = cap + cap;
     let end = half + half;
     let n = m[end] as usize;
     let i = base_util::find(m, n, p);
-    if i < n {
-        let bytes = bytes_of(m[half + i], m[half + cap + i]);
-        let len = m[cap + i] as u8;
-        return PeerData {
-            present: true,
-            len,
-            bytes,
-        };
+    if i >= n {
+        return None;
     }
-    PeerData::absent()
+    let len = m[cap + i] as u8;
+    let bytes = bytes_of(m[half + i], m[half + cap + i]);
+    Some(PeerData { len, bytes })
 }
 
 // Whether the peer has exactly the bytes of `d`.
 pub fn holds_data(m: &[u64], cap: usize, p: PeerId, d: PeerData) -> bool
-    requires valid_data_words { ValidDataWords cap m.now }
-    requires valid_data { ValidData d }
-    ensures { result ≡ holds (lookup p (data_map_at cap m.now)) (bytes_of (data_in d)) }
+    requires { ValidDataWords cap m.now }
+    ensures { result ≡ holds (lookup p (data_map_at cap m.now)) (bytes_of (data_in (Some d))) }
 {
     let half = cap + cap;
     let end = half + half;
@@ -289,25 +274,21 @@ pub fn retain_data(m: &mut [u64], cap: usize, s: &[u64], scap: usize)
     requires valid_set { ValidSet scap s.now }
     ensures { ChangesData cap (retain (items_at scap s.now)) m }
 {
-    let mut n = count_data(m, cap);
-    let mut i: usize = 0;
-    while i < n {
+    // From the last place on, so that those still to come stay where they are.
+    for i in (0..count_data(m, cap)).rev() {
         let p = m[i];
         if base_util::contains(s, scap, p) {
-            i += 1;
-        } else {
-            remove_data(m, cap, p);
-            n = count_data(m, cap);
+            continue;
         }
+        remove_data(m, cap, p);
     }
 }
 
-// The data is stored as its bytes, of which absent data has none.
+// The data is stored as its bytes.
 pub fn insert_data(m: &mut [u64], cap: usize, p: PeerId, d: PeerData)
     requires valid_data_words { ValidDataWords cap m.old }
-    requires valid_data { ValidData d }
     requires cap_value { (has p (data_map_at cap m.old) || ltb (length (data_map_at cap m.old)) cap) ≡ true }
-    ensures { ChangesData cap (put p (bytes_of (data_in d))) m }
+    ensures { ChangesData cap (put p (bytes_of (data_in (Some d)))) m }
 {
     let half = cap + cap;
     let end = half + half;
@@ -361,10 +342,8 @@ pub fn data_valid(m: &[u64], cap: usize) -> bool
         & base_util::zero_from(m, half + n, high)
         & base_util::zero_from(m, high + n, end)
         & base_util::rises(m, n);
-    let mut i: usize = 0;
-    while i < n {
-        ok = ok & row_valid(m[cap + i], m[half + i], m[high + i]);
-        i += 1;
+    for i in 0..n {
+        ok &= row_valid(m[cap + i], m[half + i], m[high + i]);
     }
     ok
 }

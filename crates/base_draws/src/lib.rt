@@ -1,5 +1,4 @@
-// 01, "Random choices": the draw list together with the place reached in it. Each function over the struct takes it apart
-// and leaves the work to one that takes a plain slice and a number.
+// 01, "Random choices": the draw list together with the place reached in it.
 #![tactic(auto)]
 
 ghost use Rattle.std.specs.Prelude.{◌≡◌, drop};
@@ -11,44 +10,21 @@ pub struct Draws<'a> {
     pub at: usize,
 }
 
-// The place n draws further on, never past the end.
-fn past(list: &[u32], at: usize, n: usize) -> usize
-    ensures { result ≡ past list.now at n }
-{
-    if at < list.len() {
-        if n < list.len() - at {
-            return at + n;
-        }
-    }
-    list.len()
-}
-
-// The draws from a place on.
-fn rest_at(list: &[u32], at: usize) -> &[u32]
-    ensures { result.now ≡ drop at list.now }
-{
-    let n = list.len();
-    if at < n {
-        return &list[at..];
-    }
-    &list[n..]
-}
-
 impl<'a> Draws<'a> {
     // What is left.
     pub fn rest(self) -> &'a [u32]
         ensures { result.now ≡ drop self.entry.at self.entry.list.now }
     {
-        rest_at(self.list, self.at)
+        &self.list[self.at.min(self.list.len())..]
     }
 
-    // What an event used is left behind.
+    // What an event used is left behind, and the place is never past the end.
     pub fn skip(self, n: usize) -> Draws<'a>
         ensures { result ≡ moved self.entry n }
     {
         Draws {
-            list: self.list,
-            at: past(self.list, self.at, n),
+            at: self.at.saturating_add(n).min(self.list.len()),
+            ..self
         }
     }
 }
@@ -57,15 +33,12 @@ impl<'a> Draws<'a> {
 pub fn rest_from(list: &[u32], at: usize) -> &[u32]
     ensures { result.now ≡ drop at list.now }
 {
-    let d = Draws { list: list, at: at };
-    d.rest()
+    Draws { list, at }.rest()
 }
 
 // The place after n more draws, for the same caller.
 pub fn place_after(list: &[u32], at: usize, n: usize) -> usize
     ensures { result ≡ past list.now at n }
 {
-    let d = Draws { list: list, at: at };
-    let e = d.skip(n);
-    e.at
+    Draws { list, at }.skip(n).at
 }

@@ -1,11 +1,11 @@
 -- Laws of arrays of fixed length, and of an item taken out or put in.
 -- Assumes nothing.
-use Prim.Native.Nat.{ℕ, zero, suc, ◌≤◌, ◌<◌, zero-le}
-use mathlib.Core.Path.{◌≡◌, refl, ap, subst, ◌∙◌}
+use Prim.Native.Nat.{ℕ, zero, suc, ◌+◌, ◌≤◌, ◌<◌, zero-le}
+use mathlib.Core.Path.{◌≡◌, refl, sym, ap, subst, ◌∙◌}
 use mathlib.Core.List.{List, [], ◌∷◌, ◌++◌}
 use native.Mathlib.Nat.{le_of_suc-le-suc, not-suc-le-zero}
 use native.Mathlib.Omega.{arith}
-use lib.ListN.{length, take, get_or, set}
+use lib.ListN.{length, take, get_or, set, replicate}
 use Rattle.base_lists.specs.Array.{pad}
 use Rattle.base_lists.specs.Lists.{shift_remove, insert_at}
 
@@ -15,6 +15,27 @@ module _ {A : Type 0} (z : A) where
   length_pad zero xs = refl
   length_pad (suc n) [] = ap suc (length_pad n [])
   length_pad (suc n) (x ∷ xs) = ap suc (length_pad n xs)
+
+  pad_none : (n : ℕ) → pad z n [] ≡ replicate n z
+  unfolding pad
+  pad_none zero = refl
+  pad_none (suc n) = ap (λ (l : List A). z ∷ l) (pad_none n)
+
+  -- the items, and then the k places past them
+  pub pad_append : (n k : ℕ) (xs : List A) → n ≡ length xs + k → pad z n xs ≡ xs ++ replicate k z
+  unfolding pad
+  pad_append n k [] e = let q : n ≡ k = omega (arith, e) in pad_none n ∙ ap (λ (j : ℕ). replicate j z) q
+  pad_append zero k (x ∷ xs) e = absurd (omega (arith, e))
+  pad_append (suc n) k (x ∷ xs) e = ap (λ (l : List A). x ∷ l) (pad_append n k xs (omega (arith, e)))
+
+  -- more places past a list that is filled up
+  pub pad_more : (n k m : ℕ) (xs : List A) → length xs ≤ n → m ≡ n + k → pad z n xs ++ replicate k z ≡ pad z m xs
+  unfolding pad
+  pad_more zero k m [] h e = let q : k ≡ m = omega (arith, e) in ap (λ (j : ℕ). replicate j z) q ∙ sym (pad_none m)
+  pad_more zero k m (x ∷ xs) h e = absurd (not-suc-le-zero h)
+  pad_more (suc n) k zero xs h e = absurd (omega (arith, e))
+  pad_more (suc n) k (suc m) [] h e = ap (λ (l : List A). z ∷ l) (pad_more n k m [] zero-le (omega (arith, e)))
+  pad_more (suc n) k (suc m) (x ∷ xs) h e = ap (λ (l : List A). x ∷ l) (pad_more n k m xs (le_of_suc-le-suc h) (omega (arith, e)))
 
   pub take_pad : (n : ℕ) (xs : List A) → length xs ≤ n → take (length xs) (pad z n xs) ≡ xs
   unfolding pad

@@ -4,7 +4,7 @@ use mathlib.Core.Path.{◌≡◌, refl, sym, ap, ◌∙◌, subst}
 use mathlib.Core.Bool.{true, ◌||◌}
 use mathlib.Core.List.{List, [], ◌∷◌, map}
 use mathlib.Core.Option.{none, some}
-use Prim.Native.Nat.{ℕ, zero, suc, ◌+◌, ◌-◌, ◌≤◌, ◌<◌}
+use Prim.Native.Nat.{ℕ, zero, suc, ◌+◌, ◌≤◌, ◌<◌}
 use native.Mathlib.Nat.{le_of_suc-le-suc, not-suc-le-zero}
 use native.Mathlib.Omega.{arith}
 use lib.ListN.{length, take, get_or, set, length-map, length-set}
@@ -21,9 +21,6 @@ use Rattle.base_lists.proofs.Count.{index_at}
 use Rattle.base_lists.proofs.Maps.{length_keys, keys_cut, keys_put}
 use Rattle.base_lists.proofs.Zip.{keys_zip, values_zip, get_d_zip, zip_set, zip_shift_remove, zip_insert_at}
 use Rattle.base_lists.proofs.Array.{length_pad, take_pad, set_pad, length_shift_remove, length_insert_at}
-use Rattle.base_lists.proofs.Front.{get_d_any}
-use Rattle.base_lists.proofs.Remove.{Removing, removing_start, removing_next, removing_end}
-use Rattle.base_lists.proofs.Insert.{Inserting, inserting_start, inserting_next, inserting_end}
 use Rattle.base_lists.proofs.Places.{has_found, has_missing, lookup_found, lookup_missing, cut_missing, cut_found, replace_found, place_is}
 
 -- ---- a change of a place, and what an entry stands for
@@ -201,74 +198,3 @@ module _ {E B : Type 0} (z : E) (N : ℕ) (value : E → B) (P : E → Type 0) w
             ∙ place_is k w m ∙ ap (λ (j : ℕ). insert_at j (k, w) m) (sym q)))
 
 -- ---- the loops
-
--- the item at place i of the first n of l₀ is taken out: what the array holds when place j is the next to be stored to, and last is the last item's place
-pub record Cutting {A : Type 0} (z : A) (N : ℕ) (l₀ : List A) (n i last : ℕ) (l : List A) (j : ℕ) : Type 0 where
-  pub taken : length (take n l₀) ≡ n
-  pub count : n ≡ last + 1
-  pub room : last < N
-  pub long : length l ≡ N
-  pub high : j ≤ last
-  pub run : Removing z N (take n l₀) i l j
-
-module _ {A : Type 0} (z : A) (N : ℕ) where
-  pub cutting_start : (l : List A) (n i : ℕ) → n ≤ N → l ≡ pad z N (take n l) → i < n → Cutting z N l n i (n - 1) l i
-  cutting_start l n i f p h =
-      let e = length_packed z N l n f p in
-      record {
-        taken = e;
-        count = omega arith;
-        room = omega arith;
-        long = ap length p ∙ length_pad z N (take n l);
-        high = omega arith;
-        run = subst (λ (o : List A). Removing z N (take n l) i o i) (sym p) (removing_start z N (take n l) i (omega arith) (omega arith));
-      }
-
-  module _ (l₀ : List A) (n i last : ℕ) (l : List A) (j : ℕ) (v : Cutting z N l₀ n i last l j) where
-    -- the code's read has another default, which an index within the array never meets
-    pub cutting_next : (d : A) → j < last → Cutting z N l₀ n i last (set l j (get_or l (j + 1) d)) (j + 1)
-    cutting_next d h = record {
-      taken = v.taken;
-      count = v.count;
-      room = v.room;
-      long = length-set l j (get_or l (j + 1) d) ∙ v.long;
-      high = omega arith;
-      run = rw (get_d_any l (j + 1) d z (omega (arith, v.long, v.room))) (removing_next z v.run (omega (arith, v.taken, v.count)));
-    }
-
-    pub cutting_end : last ≤ j → set l last z ≡ pad z N (shift_remove i (take n l₀))
-    cutting_end h =
-        let e : j ≡ last = omega (arith, v.high) in rw (← e) (removing_end z v.run (omega (arith, v.taken, v.count)))
-
--- x is put in at place i of the first n of l₀: what the array holds when `carried` is the next to be stored, at place j
-pub record Putting {A : Type 0} (z : A) (N : ℕ) (l₀ : List A) (n i : ℕ) (x : A) (l : List A) (carried : A) (j : ℕ) : Type 0 where
-  pub taken : length (take n l₀) ≡ n
-  pub room : n < N
-  pub long : length l ≡ N
-  pub high : j ≤ n + 1
-  pub run : Inserting z N (take n l₀) i x l carried j
-
-module _ {A : Type 0} (z : A) (N : ℕ) where
-  pub putting_start : (l : List A) (n i : ℕ) (x : A) → l ≡ pad z N (take n l) → i ≤ n → n < N → Putting z N l n i x l x i
-  putting_start l n i x p h r =
-      let e = length_packed z N l n (omega arith) p in
-      record {
-        taken = e;
-        room = r;
-        long = ap length p ∙ length_pad z N (take n l);
-        high = omega arith;
-        run = subst (λ (o : List A). Inserting z N (take n l) i x o x i) (sym p) (inserting_start z N (take n l) i x (omega arith) (omega arith));
-      }
-
-  module _ (l₀ : List A) (n i : ℕ) (x : A) (l : List A) (carried : A) (j : ℕ) (v : Putting z N l₀ n i x l carried j) where
-    pub putting_next : (d : A) → j ≤ n → Putting z N l₀ n i x (set l j carried) (get_or l j d) (j + 1)
-    putting_next d h = record {
-      taken = v.taken;
-      room = v.room;
-      long = length-set l j carried ∙ v.long;
-      high = omega arith;
-      run = rw (get_d_any l j d z (omega (arith, v.long, v.room))) (inserting_next z v.run (omega (arith, v.taken)));
-    }
-
-    pub putting_end : n < j → l ≡ pad z N (insert_at i x (take n l₀))
-    putting_end h = inserting_end z v.run (omega (arith, v.taken))

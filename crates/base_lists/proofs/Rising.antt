@@ -1,13 +1,15 @@
 -- Laws of lists in rising order.
 -- Assumes nothing.
-use mathlib.Core.Path.{◌≡◌}
+use mathlib.Core.Path.{◌≡◌, refl, sym, ap, subst}
 use mathlib.Core.Bool.{false}
 use mathlib.Core.List.{List, [], ◌∷◌}
-use Prim.Native.Nat.{ℕ, ◌≤◌, ◌<◌}
+use Prim.Native.Nat.{ℕ, zero, suc, ◌≤◌, ◌<◌}
+use native.Mathlib.Nat.{le_of_suc-le-suc, not-suc-le-zero}
 use native.Mathlib.Omega.{arith}
+use lib.ListN.{length, drop, get_or}
 use lib.Dec.{eqb, ltb}
-use borrow.Author.Tests.{ltb-true, ltb-false, eqb-false}
-use Rattle.base_lists.specs.Lists.{Above, Rising, mem, without, place, insert}
+use borrow.Author.Tests.{ltb-true, ltb-false, eqb-false, eq-eqb, ne_eqb}
+use Rattle.base_lists.specs.Lists.{Above, Rising, mem, without, shift_remove, place, insert}
 use Rattle.base_lists.proofs.Choice.{split, by_test}
 
 above_without : (x p : ℕ) (xs : List ℕ) → Above x xs → Above x (without p xs)
@@ -46,3 +48,31 @@ rising_place p (y ∷ ys) m h =
 pub rising_insert : (p : ℕ) (xs : List ℕ) → Rising xs → Rising (insert p xs)
 unfolding insert
 rising_insert p xs h = by_test Rising (mem p xs) (λ e. h) (λ e. rising_place p xs e h)
+
+-- ---- an item at a place, which no other is
+
+without_above : (p : ℕ) (xs : List ℕ) → Above p xs → without p xs ≡ xs
+unfolding Above without
+without_above p [] h = refl
+without_above p (y ∷ ys) h = let e : p ≡ y → ⊥ = λ q. omega (arith, h.0) in rw (ne_eqb p y e) (ap (λ (l : List ℕ). y ∷ l) (without_above p ys h.1))
+
+above_at : (x : ℕ) (xs : List ℕ) (i : ℕ) → Above x xs → i < length xs → x < get_or xs i 0
+unfolding Above
+above_at x [] i h p = absurd (not-suc-le-zero p)
+above_at x (y ∷ ys) zero h p = h.0
+above_at x (y ∷ ys) (suc i) h p = above_at x ys i h.1 (le_of_suc-le-suc p)
+
+pub without_at : (xs : List ℕ) (i p : ℕ) → Rising xs → i < length xs → get_or xs i 0 ≡ p → without p xs ≡ shift_remove i xs
+unfolding Rising without shift_remove
+without_at [] i p r h e = refl
+without_at (x ∷ xs) zero p r h e = rw (eq-eqb p x (sym e)) (without_above p xs (subst (λ (y : ℕ). Above y xs) e r.0))
+without_at (x ∷ xs) (suc i) p r h e =
+    let q : p ≡ x → ⊥ = λ z. omega (arith, above_at x xs i r.0 (le_of_suc-le-suc h), e) in
+    rw (ne_eqb p x q) (ap (λ (l : List ℕ). x ∷ l) (without_at xs i p r.1 (le_of_suc-le-suc h) e))
+
+pub drop_shift_remove : (i : ℕ) (xs : List ℕ) → drop i (shift_remove i xs) ≡ drop (suc i) xs
+unfolding shift_remove
+drop_shift_remove zero [] = refl
+drop_shift_remove (suc i) [] = refl
+drop_shift_remove zero (x ∷ xs) = refl
+drop_shift_remove (suc i) (x ∷ xs) = drop_shift_remove i xs

@@ -1,18 +1,20 @@
--- A loop that looks for the first element of an array at which the test t holds. f is a definition that says its place, or the length where there is none.
+-- A search for the first element of a list at which the test t holds. f is a definition that says its place, or the length where there is none.
 -- Assumes nothing.
 use Prim.Native.Nat.{ℕ, suc, ◌+◌, ◌≤◌, ◌<◌}
-use mathlib.Core.Path.{◌≡◌, refl, sym, ◌∙◌}
+use mathlib.Core.Path.{◌≡◌, refl, sym, ap, ◌∙◌}
 use mathlib.Core.Bool.{Bool, true, false, cond}
 use mathlib.Core.List.{List, [], ◌∷◌}
 use native.Mathlib.Omega.{arith}
-use lib.ListN.{length, get_or}
-use lib.Seq.{slice}
+use lib.ListN.{length}
 use lib.Dec.{eqb, ltb}
-use borrow.Author.Tests.{lt-ltb, le-ltb}
+use borrow.Author.Tests.{lt-ltb, le-ltb, ltb-false}
+use Rattle.std.specs.Prelude.{Option, Some, None}
+use Rattle.std.specs.List.{position, position_or_len}
+use Rattle.std.specs.Option.{unwrap_or}
+use Rattle.std.proofs.lemmas.List.Recursion.{is_position_or_len}
 use Rattle.base_lists.specs.Lists.{mem, index_of, rank}
 use Rattle.base_lists.proofs.Choice.{split}
 use Rattle.base_lists.proofs.Count.{index_lt}
-use Rattle.base_lists.proofs.Rest.{Rest, rest_at, rest_next, rest_end}
 
 -- f answers the place of the first element at which t holds
 pub record First {A : Type 0} (t : A → Bool) (f : List A → ℕ) : Type 0 where
@@ -27,22 +29,32 @@ pub first_rank : (x : ℕ) → First (ltb x) (rank x)
 unfolding rank
 first_rank x = record { none = refl; more = λ y l. refl }
 
--- the answer where the elements before place i are passed and l are to come
-abbrev pub Place : {A : Type 0} → (List A → ℕ) → ℕ → List A → ℕ
-Place f i l = i + f l
+module _ {A : Type 0} {t : A → Bool} {f : List A → ℕ} (g : First t f) where
+  first_at_most : (l : List A) → f l ≤ length l
+  first_at_most [] = omega (arith, g.none)
+  first_at_most (x ∷ l) =
+      split (t x) (λ e. let q : f (x ∷ l) ≡ 0 = g.more x l ∙ rw e in omega (arith, q))
+      (λ e. let q : f (x ∷ l) ≡ suc (f l) = g.more x l ∙ rw e in omega (arith, q, first_at_most l))
 
-module _ {A : Type 0} (d : A) {t : A → Bool} {f : List A → ℕ} (g : First t f) {cap : ℕ} {items : List A} {n whole i : ℕ} (v : Rest (Place f) cap items n whole i i) where
-  pub first_here : i < n → t (get_or items i d) ≡ true → i ≡ whole
-  first_here h e =
-      let q : f (get_or items i d ∷ slice (suc i) n items) ≡ 0 = g.more _ _ ∙ rw e in
-      omega (arith, rest_at d (Place f) v h)
+  first_is : (l : List A) → f l ≡ position_or_len t l
+  first_is l = is_position_or_len f t g.none (λ x r. let q : suc (f r) ≡ 1 + f r = omega arith in g.more x r ∙ ap (cond (t x) 0) q) l
 
-  pub first_next : i < n → t (get_or items i d) ≡ false → Rest (Place f) cap items n whole (i + 1) (i + 1)
-  first_next h e =
-      rest_next d (Place f) v (i + 1) h (λ l. let q : f (get_or items i d ∷ l) ≡ suc (f l) = g.more _ _ ∙ rw e in omega arith)
+  position_is : (l : List A) (n : ℕ) (r : Option ℕ) → r ≡ position t l → n ≡ length l → unwrap_or r n ≡ f l
+  position_is l n r e q =
+      let w = first_is l in
+      let m = first_at_most l in
+      let k = position_or_len t l in
+      ap (λ (o : Option ℕ). unwrap_or o n) e
+      ∙ split (ltb k (length l)) (λ h. let a : unwrap_or (cond (ltb k (length l)) (Some k) None) n ≡ k = rw h refl in a ∙ sym w)
+      (λ h. let a : unwrap_or (cond (ltb k (length l)) (Some k) None) n ≡ n = rw h refl in
+      let b : length l ≤ k = ltb-false k (length l) h in
+      a ∙ omega (arith, q, w, m, b))
 
-  pub first_end : n ≤ i → n ≡ whole
-  first_end h = omega (arith, rest_end d (Place f) v h, g.none, v.low)
+  -- the place that `position` answers, or the number of items where it answers none
+  pub first_position : (l : List A) (n : ℕ) (r : Option ℕ) (u : ℕ) → r ≡ position t l → u ≡ unwrap_or r n → length l ≡ n → (u ≡ f l) × (u ≤ n)
+  first_position l n r u e p q =
+      let w : u ≡ f l = p ∙ position_is l n r e (sym q) in
+      (w, omega (arith, first_at_most l))
 
 pub index_absent : (x : ℕ) (xs : List ℕ) → mem x xs ≡ false → index_of x xs ≡ length xs
 unfolding index_of mem

@@ -2,7 +2,7 @@
 -- Assumes nothing.
 use mathlib.Core.Path.{◌≡◌, refl, sym, ap, ◌∙◌}
 use mathlib.Core.Bool.{Bool, true, false, ◌&&◌, and-true, and_assoc}
-use mathlib.Core.List.{List, [], ◌∷◌, map}
+use mathlib.Core.List.{List, [], ◌∷◌, ◌++◌, map}
 use Prim.Native.Nat.{ℕ, zero, suc, ◌+◌, ◌≤◌, ◌<◌}
 use native.Mathlib.Omega.{arith}
 use lib.ListN.{length, take, drop, get_or}
@@ -54,6 +54,12 @@ same_length [] [] h = absurd (h refl)
 same_length [] (y ∷ ys) h = refl
 same_length (x ∷ xs) [] h = refl
 same_length (x ∷ xs) (y ∷ ys) h = rw (same_length xs ys (λ e. h (ap suc e))) (and_no (eqb x y))
+
+-- a test of two lists in a row
+pub every_append : {A : Type 0} (t : A → Bool) (xs ys : List A) → every t (xs ++ ys) ≡ (every t xs && every t ys)
+unfolding every
+every_append t [] ys = refl
+every_append t (x ∷ xs) ys = ap (λ (b : Bool). t x && b) (every_append t xs ys) ∙ sym (and_assoc (t x) (every t xs) (every t ys))
 
 module _ {A : Type 0} (t : A → Bool) (P : A → Type 0) where
   pub every_true : ((x : A) → t x ≡ true → P x) → (xs : List A) → every t xs ≡ true → All P xs

@@ -1,19 +1,18 @@
 -- What a map has for a peer: a number, or data in an entry of a length and 16 bytes.
 -- Assumes nothing.
-use Rattle.std.specs.Prelude.{ℕ, ◌≤◌, ◌≡◌, Bool, true, ◌&&◌, List, [], ◌∷◌, take, replicate, leb, ltb}
-use Rattle.std.proofs.Math.Option.{Option, none, some}
+use Rattle.std.specs.Prelude.{ℕ, ◌≤◌, ◌≡◌, Bool, true, ◌&&◌, List, [], ◌∷◌, take, replicate, leb, ltb, Option, Some, None}
+use Rattle.std.proofs.Math.Option as Math
+use Rattle.std.proofs.Math.Option.{none, some}
 use Rattle.base_lists.specs.Array.{pad}
 use Rattle.base_lists.specs.Tests.{packed}
 use Rattle.base_peer.specs.Held.{zero_byte}
-use Rattle.base_peer.specs.declared.Number.{Number}
-use Rattle.base_peer.specs.declared.Number.TheVariants.{Absent, Is}
 
 -- ---- numbers by peer
 
 -- the number that an answer names, if any
-unfoldable pub number_in : Number → Option ℕ
-number_in Absent = none
-number_in (Is n) = some n
+unfoldable pub number_in : Option ℕ → Math.Option ℕ
+number_in None = none
+number_in (Some n) = some n
 
 -- whether every number is below n (01: open numbers are below their counters)
 unfoldable pub numbers_under : ℕ → List (ℕ × ℕ) → Bool

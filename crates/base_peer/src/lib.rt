@@ -1,80 +1,47 @@
 // Part 3 of document 01: a peer's data, and a peer with its data.
 #![tactic(auto)]
 
-ghost use Rattle.std.proofs.Math.Option.{none};
-ghost use Rattle.base_peer.specs.Held.{HoldsData, Takes};
+ghost use Rattle.std.specs.Prelude.{◌≡◌, ◌≤◌, take};
+ghost use Rattle.base_lists.specs.Array.{pad};
 
 // A peer, by its number.
 pub type PeerId = u64;
 
-// Data of a peer: absent, or 0 to 16 bytes. Unused bytes are zero, and absent data has length 0.
-#[derive(Clone, Copy)]
+// Data of a peer that has some: 0 to 16 bytes, and zeroes past them. Absent data is `None`. The bytes stand in the value, since the project has no heap.
+#[derive(Clone, Copy, PartialEq, Eq)]
 pub struct PeerData {
-    pub present: bool,
     pub len: u8,
     pub bytes: [u8; PeerData::BYTES],
+    pub ghost fits: { len ≤ 16 },
+    pub ghost packed: { bytes ≡ pad 0 16 (take len bytes) },
 }
 
 // A peer with its data.
-#[derive(Clone, Copy)]
+#[derive(Clone, Copy, PartialEq, Eq)]
 pub struct PeerInfo {
     pub id: PeerId,
-    pub data: PeerData,
-}
-
-// Data, or that there were too many bytes for it: then `data` is absent.
-#[derive(Clone, Copy)]
-pub struct MaybeData {
-    pub ok: bool,
-    pub data: PeerData,
+    pub data: Option<PeerData>,
 }
 
 impl PeerData {
+    ghost use Rattle.base_peer.specs.Held.{data_in, taken};
+
     // The bytes that data has room for.
     pub const BYTES: usize = 16;
 
-    pub fn absent() -> PeerData
-        ensures { HoldsData result none }
-    {
-        PeerData {
-            present: false,
-            len: 0,
-            bytes: [0u8; PeerData::BYTES],
-        }
-    }
-
-    // The lent bytes as data; more than 16 are refused.
-    pub fn from_slice(bytes: &[u8]) -> MaybeData
-        ensures { Takes result bytes.now }
+    // The lent bytes as data, or `None` where there are more than 16.
+    pub fn from_slice(bytes: &[u8]) -> Option<PeerData>
+        ensures { data_in result ≡ taken bytes.now }
     {
         let n = bytes.len();
         if n > PeerData::BYTES {
-            let none = PeerData::absent();
-            return MaybeData {
-                ok: false,
-                data: none,
-            };
+            return None;
         }
         let mut b = [0u8; PeerData::BYTES];
-        let mut i: usize = 0;
-        while i < n {
-            b[i] = bytes[i];
-            i += 1;
-        }
-        MaybeData {
-            ok: true,
-            data: PeerData {
-                present: true,
-                len: n as u8,
-                bytes: b,
-            },
-        }
+        b[..n].copy_from_slice(bytes);
+        Some(PeerData {
+            len: n as u8,
+            bytes: b,
+        })
     }
-}
-
-// The number of a peer, or that it has none.
-#[derive(Clone, Copy)]
-pub enum Number {
-    Absent,
-    Is(u64),
 }

@@ -1,19 +1,20 @@
 -- The loops of `subset` and `disjoint`.
 -- Assumes nothing.
-use Prim.Native.Nat.{ℕ, zero, suc, ◌+◌, ◌-◌, ◌%◌, ◌≤◌, ◌<◌}
+use Prim.Native.Nat.{ℕ, zero, suc, ◌+◌, ◌%◌, ◌≤◌, ◌<◌}
 use mathlib.Core.Path.{◌≡◌, refl, sym, ap, ◌∙◌}
 use mathlib.Core.Bool.{Bool, true, false, not}
 use mathlib.Core.List.{List, [], ◌∷◌}
 use native.Mathlib.Nat.{le_of_suc-le-suc, not-suc-le-zero}
 use native.Mathlib.Omega.{arith}
-use lib.ListN.{length, drop, get_or, set, length-set, drop_of_length-le}
-use lib.Seq.{drop-cons, get_or-set_same}
+use lib.ListN.{length, take, get_or, set, length-set}
+use lib.Seq.{drop-cons, take_all, get_or-set_same}
+use Rattle.std.proofs.lemmas.List.{take_more}
 use lib.Dec.{eqb}
 use borrow.Author.Tests.{eq-eqb}
 use Rattle.base_lists.specs.Lists.{mem, disjoint}
 use Rattle.base_lists.specs.Tests.{every}
 use Rattle.base_lists.proofs.Choice.{split}
-use Rattle.base_lists.proofs.Tests.{both_true}
+use Rattle.base_lists.proofs.Tests.{both_true, every_append}
 use Rattle.base_scan.proofs.Tests.{not_in}
 use Rattle.base_scan.proofs.Marks.{mark, unmarked, marks_kept}
 use Rattle.base_scan.proofs.Loops.{Left, Every, disjoint_start, every_asked, every_end}
@@ -28,33 +29,31 @@ mem_at (y ∷ s) (suc h) p = split (eqb (get_or s h 0) y) (λ t. rw t) (λ t. rw
 pub at_hint : (s : List ℕ) (h x : ℕ) → h < length s → x ≡ get_or s h 0 → true ≡ mem x s
 at_hint s h x p e = sym (ap (λ (y : ℕ). mem y s) e ∙ mem_at s h p)
 
--- ---- the words from place i on are marked
+-- ---- the words before place i are marked
 
 pub record Noting (s : List ℕ) (seen : List Bool) (i : ℕ) : Type 0 where
-  pub low : i ≤ length s
   pub size : length seen ≡ 256
-  pub marked : every (mark seen) (drop i s) ≡ true
+  pub marked : every (mark seen) (take i s) ≡ true
 
-pub noting_start : (s : List ℕ) (seen : List Bool) → length seen ≡ 256 → Noting s seen (length s)
+pub noting_start : (s : List ℕ) (seen : List Bool) → length seen ≡ 256 → Noting s seen 0
 unfolding every
-noting_start s seen e = record { low = omega arith; size = e; marked = rw (drop_of_length-le s {i = length s} (omega arith)) }
+noting_start s seen e = record { size = e; marked = refl }
 
 module _ (s : List ℕ) (seen : List Bool) (i : ℕ) (v : Noting s seen i) where
-  pub noting_next : 0 < i → Noting s (set seen (get_or s (i - 1) 0 % 256) true) (i - 1)
+  pub noting_next : i < length s → Noting s (set seen (get_or s i 0 % 256) true) (i + 1)
   unfolding every
   noting_next h =
-      let x = get_or s (i - 1) 0 in
-      let k : suc (i - 1) ≡ i = omega arith in
-      let d : drop (i - 1) s ≡ x ∷ drop i s = drop-cons s (i - 1) 0 (omega (arith, v.low)) ∙ ap (λ (n : ℕ). x ∷ drop n s) k in
+      let x = get_or s i 0 in
       let q : x % 256 < length seen = omega (arith, v.size) in
       record {
-        low = omega (arith, v.low);
         size = length-set seen _ true ∙ v.size;
-        marked = rw d (both_true _ _ (get_or-set_same seen (x % 256) true false q) (marks_kept seen (x % 256) q (drop i s) v.marked));
+        marked = ap (every (mark (set seen (x % 256) true))) (take_more s i 0 h)
+            ∙ every_append (mark (set seen (x % 256) true)) (take i s) (x ∷ [])
+            ∙ both_true _ _ (marks_kept seen (x % 256) q (take i s) v.marked) (both_true _ _ (get_or-set_same seen (x % 256) true false q) refl);
       }
 
-  pub noting_end : i ≤ 0 → every (mark seen) s ≡ true
-  noting_end h = let z : i ≡ 0 = omega arith in rw z at v.marked
+  pub noting_end : length s ≤ i → every (mark seen) s ≡ true
+  noting_end h = ap (every (mark seen)) (sym (take_all i s h)) ∙ v.marked
 
 -- ---- none of the words passed is in b
 

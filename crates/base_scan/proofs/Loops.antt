@@ -8,6 +8,7 @@ use native.Mathlib.Numerals.{add-one}
 use native.Mathlib.Omega.{arith}
 use lib.ListN.{length, drop, get_or, length-drop, drop_of_length-le}
 use lib.Seq.{drop-cons}
+use Rattle.std.specs.Prelude.{fold}
 use lib.Dec.{eqb, ltb}
 use lib.Bits.{bit_or, or_zero_r, or_add_and, and_le_l}
 use borrow.Author.Tests.{eqb-true, eqb-false, ne_eqb}
@@ -67,20 +68,10 @@ zero_or a b =
     (λ t. let n : b ≡ 0 → ⊥ = eqb-false b 0 t in
     rw t (ne_eqb (bit_or a b) 0 (λ e. n (omega (arith, or_add_and a b, and_le_l a b))) ∙ sym (and_no (eqb a 0))))
 
-abbrev pub Bits : ℕ → List ℕ → Bool
-Bits bits l = eqb bits 0 && every unused l
-
-pub bits_start : (s : List ℕ) (n : ℕ) → n ≤ length s → Left Bits s (every unused (drop n s)) 0 n
-bits_start s n h = record { low = h; same = refl }
-
-module _ (s : List ℕ) (whole : Bool) (bits i : ℕ) (v : Left Bits s whole bits i) where
-  pub bits_next : i < length s → Left Bits s whole (bit_or bits (get_or s i 0)) (i + 1)
-  unfolding every
-  bits_next h = left_next Bits v (bit_or bits (get_or s i 0)) h (rw (zero_or bits (get_or s i 0)) (sym (and_assoc (eqb bits 0) (eqb (get_or s i 0) 0) (every unused (drop (i + 1) s)))))
-
-  pub bits_end : length s ≤ i → eqb bits 0 ≡ whole
-  unfolding every
-  bits_end h = sym (left_end Bits v h ∙ and-true (eqb bits 0))
+pub all_bits : (bits : ℕ) (l : List ℕ) → eqb (fold bit_or bits l) 0 ≡ (eqb bits 0 && every unused l)
+unfolding every
+all_bits bits [] = sym (and-true (eqb bits 0))
+all_bits bits (x ∷ l) = all_bits (bit_or bits x) l ∙ rw (zero_or bits x) (and_assoc (eqb bits 0) (eqb x 0) (every unused l))
 
 -- ---- a word is among them
 

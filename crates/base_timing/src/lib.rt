@@ -20,10 +20,7 @@ impl Ttl {
     pub fn next(self) -> Ttl
         ensures { result.0 ≡ next self.0 }
     {
-        if self.0 == 0 {
-            return Ttl(0);
-        }
-        Ttl(self.0 - 1)
+        Ttl(self.0.saturating_sub(1))
     }
 }
 
@@ -143,10 +140,7 @@ impl Timing {
 pub fn shorter(a: u32, b: u32) -> u32
     ensures { result ≡ min a b }
 {
-    if a < b {
-        return a;
-    }
-    b
+    a.min(b)
 }
 
 // Whether something is done at the nth pass in a row that wants it: soon at first, then seldom, as what failed is likely to fail again.

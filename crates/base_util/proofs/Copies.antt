@@ -1,76 +1,55 @@
--- The loops that store the items of one set into another.
+-- The items of one set copied into another.
 -- Assumes nothing.
-use Prim.Native.Nat.{ℕ, ◌+◌, ◌≤◌, ◌<◌}
-use mathlib.Core.Path.{◌≡◌, sym, ap, ◌∙◌, subst}
-use mathlib.Core.List.{List, ◌++◌}
-use native.Mathlib.Nat.{not-suc-le-zero}
-use native.Mathlib.Decide.{dec_lt}
+use Prim.Native.Nat.{ℕ, ◌+◌, ◌-◌, ◌≤◌}
+use mathlib.Core.Path.{◌≡◌, sym, ap, ◌∙◌}
+use mathlib.Core.List.{List, ◌++◌, append_assoc}
 use native.Mathlib.Omega.{arith}
-use lib.ListN.{length, take, get_or, set, length-set, length-append, get_or-append, get_or-eq_default}
-use lib.Seq.{get_or-append-add}
-use Rattle.base_lists.proofs.Array.{getD_pad}
-use Rattle.base_lists.proofs.Front.{Front, front_start, front_step, front_end}
-use Rattle.base_util.specs.Section.{working_places, working_words, part, Filled, items_at, ValidSet, HoldsSet, section}
+use lib.ListN.{length, take, drop, get_or, set, replicate, length-set, length-append, length-drop, length-replicate}
+use lib.Seq.{take_at, drop-append-add, length-take-le, take-append-add, drop-drop, get_or-set_same}
+use borrow.Rule.Slice.PartMut.{mid_of, put_mid}
+use Rattle.std.proofs.lemmas.List.{drop-replicate}
+use Rattle.base_lists.specs.Array.{pad}
+use Rattle.base_lists.proofs.Array.{pad_append, pad_more}
+use Rattle.base_util.specs.Section.{working_places, working_words, part, Filled, items_at, ValidSet, HoldsSet}
 use Rattle.base_util.proofs.Columns.{filled_length}
-use Rattle.base_util.proofs.Sets.{framed, framed_long, framed_last, framed_set, framed_at, framed_past, holds_by, set_words, word_at_place, item_read}
+use Rattle.base_util.proofs.Parts.{part_set_after, put_long, slice_lent}
+use Rattle.base_util.proofs.Sets.{set_of, lent}
 
 -- ---- a copy into 32 places
 
-pub record Copying (s : List ℕ) (n : ℕ) (t₀ t : List ℕ) (i : ℕ) : Type 0 where
-  pub filled : Filled s n
-  pub few : length s ≤ working_places
-  pub low : i ≤ working_places
-  pub long : length t ≡ working_words
-  pub front : Front 0 working_words (section working_places (take n s)) t₀ t i
+module _ (s : List ℕ) (n : ℕ) (t : List ℕ) (f : Filled s n) (h : length s ≤ working_places) (l : length t ≡ working_words) where
+  later : List ℕ
+  later = drop (length s) t
 
-pub copying_start : (s : List ℕ) (n : ℕ) (t : List ℕ) → Filled s n → length s ≤ working_places → length t ≡ working_words → Copying s n t t 0
-copying_start s n t v h l = record {
-  filled = v;
-  few = h;
-  low = omega arith;
-  long = l;
-  front = front_start 0 _ _ 0 l (λ j p. absurd (not-suc-le-zero p));
-}
+  module _ (ys zs : List ℕ) (e : ys ≡ s) (o : zs ≡ replicate (length (mid_of (length s) (working_places - length s) (ys ++ drop (length s) t))) 0) where
+    abbrev words : List ℕ
+    words = put_mid (length s) (working_places - length s) (ys ++ drop (length s) t) zs
 
-module _ (s : List ℕ) (n : ℕ) (t₀ t : List ℕ) (i : ℕ) (c : Copying s n t₀ t i) where
-  fits : length (take n s) ≤ working_places
-  fits = omega (arith, filled_length s n c.filled, c.filled.fits, c.few)
+    long : length (ys ++ drop (length s) t) ≡ working_words
+    long = length-append ys (drop (length s) t) ∙ omega (arith, ap length e, length-drop (length s) t)
 
-  wanted : i < working_places → get_or (take n s) i 0 ≡ get_or (section working_places (take n s)) i 0
-  unfolding section
-  wanted h = sym (framed_at working_places (take n s) (length (take n s)) i h fits)
+    zeroes : zs ≡ replicate (working_places - length s) 0
+    zeroes = o ∙ ap (λ (k : ℕ). replicate k 0) (length-take-le (working_places - length s) (drop (length s) (ys ++ drop (length s) t)) (omega (arith, long, length-drop (length s) (ys ++ drop (length s) t))))
 
-  stored : (x : ℕ) → i < working_places → x ≡ get_or (take n s) i 0 → Copying s n t₀ (set t i x) (i + 1)
-  stored x h e = record {
-    filled = c.filled;
-    few = c.few;
-    low = omega arith;
-    long = length-set t i x ∙ c.long;
-    front = front_step c.front x (omega arith) (e ∙ wanted h);
-  }
+    words_long : length words ≡ working_words
+    words_long = put_long (length s) working_places (ys ++ drop (length s) t) zs h (omega (arith, long)) (ap length zeroes ∙ length-replicate (working_places - length s) 0) ∙ long
 
-  -- a word of the column, used or not
-  word : get_or s i 0 ≡ get_or (take n s) i 0
-  word = ap (λ (l : List ℕ). get_or l i 0) c.filled.packed ∙ getD_pad 0 (length s) (take n s) i (omega (arith, filled_length s n c.filled, c.filled.fits))
+    words_first : part 0 working_places words ≡ pad 0 working_places (take n s)
+    unfolding part
+    words_first =
+        let rest : List ℕ = drop (working_places - length s) (drop (length s) (ys ++ drop (length s) t)) in
+        let a : take (length s) (ys ++ drop (length s) t) ≡ s = take_at ys (drop (length s) t) (length s) (ap length e) ∙ e in
+        let b : length (s ++ replicate (working_places - length s) 0) ≡ working_places = length-append s (replicate (working_places - length s) 0) ∙ omega (arith, length-replicate {A = ℕ} (working_places - length s) 0) in
+        (λ j. take working_places (a j ++ (zeroes j ++ rest))) ∙ ap (take working_places) (sym (append_assoc s (replicate (working_places - length s) 0) rest))
+        ∙ take_at (s ++ replicate (working_places - length s) 0) rest working_places b
+        ∙ ap (λ (r : List ℕ). r ++ replicate (working_places - length s) 0) f.packed
+        ∙ pad_more 0 (length s) (working_places - length s) working_places (take n s) (omega (arith, filled_length s n f, f.fits)) (omega arith)
 
-  pub copying_next : i < length s → Copying s n t₀ (set t i (get_or s i 0)) (i + 1)
-  copying_next h = stored (get_or s i 0) (omega (arith, c.few)) word
-
-  pub copying_past : length s ≤ i → i < working_places → Copying s n t₀ (set t i 0) (i + 1)
-  copying_past q h = stored 0 h (sym (get_or-eq_default (take n s) 0 (omega (arith, filled_length s n c.filled, c.filled.fits))))
-
-  pub copying_long : (x k : ℕ) → k ≡ working_words → length (set t working_places x) ≡ k
-  copying_long x k l = length-set t working_places x ∙ c.long ∙ sym l
-
-  pub copying_end : length t₀ ≡ working_words → working_places ≤ i → HoldsSet working_places (set t working_places n) (take n s)
-  unfolding section
-  copying_end l p =
-      let z : i ≡ working_places = omega (arith, c.low) in
-      let g = front_step (subst (Front 0 working_words (section working_places (take n s)) t₀ t) z c.front) n (omega arith) (sym (framed_last working_places (take n s) (length (take n s)) ∙ filled_length s n c.filled)) in
-      holds_by working_places _ (take n s)
-      (front_end g (framed_long working_places (take n s) (length (take n s)))
-      (λ j k. get_or-eq_default t₀ 0 (omega arith) ∙ sym (get_or-eq_default (section working_places (take n s)) 0 (omega (arith, framed_long working_places (take n s) (length (take n s)))))))
-      fits
+    pub column_copied : HoldsSet working_places (set words working_places n) (take n s)
+    column_copied =
+        set_of working_places (set words working_places n) (take n s) (length-set words working_places n ∙ words_long)
+        (part_set_after 0 working_places working_places n words (omega arith) ∙ words_first)
+        (get_or-set_same words working_places n 0 (omega (arith, words_long)) ∙ sym (filled_length s n f)) (omega (arith, filled_length s n f, f.fits))
 
 pub copied : (n : ℕ) (s t : List ℕ) → ValidSet n s → HoldsSet working_places t (take (get_or s n 0) (part 0 n s)) → HoldsSet working_places t (items_at n s)
 unfolding items_at
@@ -78,81 +57,51 @@ copied n s t v h = h
 
 -- ---- the items of a second set after those of a first
 
-pub record Adding (n : ℕ) (s₀ : List ℕ) (m : ℕ) (more s : List ℕ) (i : ℕ) : Type 0 where
-  pub valid : ValidSet n s₀
-  pub others : ValidSet m more
-  pub room : length (items_at n s₀) + length (items_at m more) ≤ n
-  pub low : i ≤ get_or more m 0
-  pub long : length s ≡ n + 1
-  pub front : Front 0 (n + 1) (framed n (items_at n s₀ ++ items_at m more) (length (items_at n s₀))) s₀ s (get_or s₀ n 0 + i)
+module _ (n : ℕ) (s : List ℕ) (m : ℕ) (more : List ℕ) (v : ValidSet n s) (w : ValidSet m more) (r : length (items_at n s) + length (items_at m more) ≤ n) where
+  abbrev c : ℕ
+  c = get_or s n 0
 
-module _ (n : ℕ) (s₀ : List ℕ) (m : ℕ) (more : List ℕ) (v : ValidSet n s₀) (w : ValidSet m more) (r : length (items_at n s₀) + length (items_at m more) ≤ n) where
-  both_long : length (items_at n s₀ ++ items_at m more) ≡ length (items_at n s₀) + length (items_at m more)
-  both_long = length-append (items_at n s₀) (items_at m more)
+  abbrev d : ℕ
+  d = get_or more m 0
 
-  pub adding_start : Adding n s₀ m more s₀ 0
-  unfolding section
-  adding_start = record {
-    valid = v;
-    others = w;
-    room = r;
-    low = omega arith;
-    long = v.long;
-    front = front_start 0 _ _ (get_or s₀ n 0 + 0) v.long (λ j p.
-        word_at_place n s₀ j v (omega (arith, v.fits))
-        ∙ sym (framed_at n (items_at n s₀ ++ items_at m more) (length (items_at n s₀)) j (omega (arith, v.fits)) (omega (arith, both_long))
-        ∙ get_or-append (items_at n s₀) (items_at m more) 0 j (omega (arith, v.counted))));
-  }
+  both_long : length (items_at n s ++ items_at m more) ≡ c + d
+  both_long = length-append (items_at n s) (items_at m more) ∙ omega (arith, v.counted, w.counted)
 
-module _ (n : ℕ) (s₀ : List ℕ) (m : ℕ) (more s : List ℕ) (i : ℕ) (a : Adding n s₀ m more s i) where
-  pub adding_next : i < get_or more m 0 → Adding n s₀ m more (set s (get_or s₀ n 0 + i) (get_or more i 0)) (i + 1)
-  adding_next h =
-      let l = length-append (items_at n s₀) (items_at m more) in
-      let c = a.valid.counted in
-      let d = a.others.counted in
-      let k : length (items_at n s₀) + i ≡ get_or s₀ n 0 + i = omega arith in
-      let e : get_or more i 0 ≡ get_or (framed n (items_at n s₀ ++ items_at m more) (length (items_at n s₀))) (get_or s₀ n 0 + i) 0 =
-      item_read m more i a.others (omega arith) ∙ sym (get_or-append-add (items_at n s₀) (items_at m more) i 0)
-      ∙ ap (λ (j : ℕ). get_or (items_at n s₀ ++ items_at m more) j 0) k
-      ∙ sym (framed_at n (items_at n s₀ ++ items_at m more) (length (items_at n s₀)) (get_or s₀ n 0 + i) (omega (arith, a.room)) (omega (arith, l, a.room))) in
-      let f = front_step a.front (get_or more i 0) (omega (arith, a.room)) e in
-      let q : get_or s₀ n 0 + i + 1 ≡ get_or s₀ n 0 + (i + 1) = omega arith in
-      record {
-        valid = a.valid;
-        others = a.others;
-        room = a.room;
-        low = omega arith;
-        long = length-set s (get_or s₀ n 0 + i) (get_or more i 0) ∙ a.long;
-        front = subst (Front 0 (n + 1) (framed n (items_at n s₀ ++ items_at m more) (length (items_at n s₀))) s₀ (set s (get_or s₀ n 0 + i) (get_or more i 0))) q f;
-      }
+  -- what stands past the items
+  past : take (n - (c + d)) (drop (c + d) s) ≡ replicate (n - (c + d)) 0
+  unfolding part items_at
+  past =
+      let xs = items_at n s in
+      let p : take n s ≡ pad 0 n xs = v.filled.packed ∙ ap (λ (k : ℕ). pad 0 k xs) (length-take-le n s (omega (arith, v.long))) in
+      let k : length xs + d ≡ c + d = omega (arith, v.counted) in
+      slice_lent (c + d) n s (omega (arith, r, v.counted, w.counted)) (omega (arith, v.long)) ∙ ap (drop (c + d)) (p ∙ pad_append 0 n (n - c) xs (omega (arith, v.counted, v.fits)))
+      ∙ ap (λ (j : ℕ). drop j (xs ++ replicate (n - c) 0)) (sym k) ∙ drop-append-add xs (replicate (n - c) 0) d ∙ drop-replicate d (n - c) 0
+      ∙ (let q : n - c - d ≡ n - (c + d) = omega arith in ap (λ (j : ℕ). replicate j 0) q)
 
-  pub adding_long : (c : ℕ) → length (set s n c) ≡ length s₀
-  adding_long c = length-set s n c ∙ a.long ∙ sym a.valid.long
+  module _ (ys : List ℕ) (e : ys ≡ take d more) where
+    abbrev joined : List ℕ
+    joined = put_mid c (c + d - c) s ys
 
-  at_count : (j : ℕ) → n ≤ j → get_or s₀ j 0 ≡ get_or (framed n (items_at n s₀ ++ items_at m more) (length (items_at n s₀))) j 0
-  unfolding section
-  at_count j h =
-      ap (λ (l : List ℕ). get_or l j 0) (set_words n s₀ a.valid) ∙ framed_past n (items_at n s₀) (length (items_at n s₀)) j h
-      ∙ sym (framed_past n (items_at n s₀ ++ items_at m more) (length (items_at n s₀)) j h)
+    theirs : ys ≡ items_at m more
+    theirs = e ∙ lent m more w
 
-  past_end : (j : ℕ) → get_or more m 0 ≤ i → get_or s₀ n 0 + i ≤ j → Dec (j < n) → get_or s₀ j 0 ≡ get_or (framed n (items_at n s₀ ++ items_at m more) (length (items_at n s₀))) j 0
-  past_end j h p (yes q) =
-      let l = length-append (items_at n s₀) (items_at m more) in
-      let c = a.valid.counted in
-      let d = a.others.counted in
-      word_at_place n s₀ j a.valid q ∙ get_or-eq_default (items_at n s₀) 0 (omega arith)
-      ∙ sym (framed_at n (items_at n s₀ ++ items_at m more) (length (items_at n s₀)) j q (omega (arith, l, a.room)) ∙ get_or-eq_default (items_at n s₀ ++ items_at m more) 0 (omega (arith, l)))
-  past_end j h p (no q) = at_count j (omega arith)
+    joined_long : length joined ≡ n + 1
+    joined_long = put_long c (c + d) s ys (omega arith) (omega (arith, v.long, v.counted, w.counted, r)) (ap length theirs ∙ omega (arith, w.counted)) ∙ v.long
 
-  pub adding_end : get_or more m 0 ≤ i → HoldsSet n (set s n (get_or s₀ n 0 + get_or more m 0)) (items_at n s₀ ++ items_at m more)
-  unfolding section
-  adding_end h =
-      let l = length-append (items_at n s₀) (items_at m more) in
-      let c = a.valid.counted in
-      let d = a.others.counted in
-      let e : s ≡ framed n (items_at n s₀ ++ items_at m more) (length (items_at n s₀)) =
-      front_end a.front (framed_long n (items_at n s₀ ++ items_at m more) (length (items_at n s₀))) (λ j p. past_end j h p (dec_lt j n)) in
-      let k : get_or s₀ n 0 + get_or more m 0 ≡ length (items_at n s₀ ++ items_at m more) = omega (arith, l) in
-      holds_by n _ (items_at n s₀ ++ items_at m more)
-      ((λ j. set (e j) n (k j)) ∙ framed_set n (items_at n s₀ ++ items_at m more) (length (items_at n s₀)) (length (items_at n s₀ ++ items_at m more)))
-      (omega (arith, l, a.room))
+    joined_first : part 0 n joined ≡ pad 0 n (items_at n s ++ items_at m more)
+    unfolding part
+    joined_first =
+        let xs = items_at n s in
+        let zs = items_at m more in
+        let q : c + d - c ≡ d = omega arith in
+        let k : length (xs ++ zs) + (n - (c + d)) ≡ n = omega (arith, both_long, v.counted, w.counted, r) in
+        (λ j. take n (lent n s v j ++ (theirs j ++ drop (q j) (drop c s)))) ∙ ap (λ (l : List ℕ). take n (xs ++ (zs ++ l))) (drop-drop d c s)
+        ∙ ap (take n) (sym (append_assoc xs zs (drop (c + d) s))) ∙ ap (λ (j : ℕ). take j ((xs ++ zs) ++ drop (c + d) s)) (sym k)
+        ∙ take-append-add (xs ++ zs) (drop (c + d) s) (n - (c + d)) ∙ ap (λ (l : List ℕ). (xs ++ zs) ++ l) past
+        ∙ sym (pad_append 0 n (n - (c + d)) (xs ++ zs) (sym k))
+
+    pub appended : HoldsSet n (set joined n (c + d)) (items_at n s ++ items_at m more)
+    appended =
+        set_of n (set joined n (c + d)) (items_at n s ++ items_at m more) (length-set joined n (c + d) ∙ joined_long)
+        (part_set_after 0 n n (c + d) joined (omega arith) ∙ joined_first)
+        (get_or-set_same joined n (c + d) 0 (omega (arith, joined_long)) ∙ sym both_long) (omega (arith, both_long, v.counted, w.counted, r))

@@ -1,6 +1,6 @@
 -- The loop of `is_distinct`: none of the n words from place i on stands twice, and each has its mark. By the marks of scan.
 -- Assumes nothing.
-use Prim.Native.Nat.{ℕ, suc, ◌-◌, ◌%◌, ◌≤◌, ◌<◌}
+use Prim.Native.Nat.{ℕ, suc, ◌+◌, ◌-◌, ◌%◌, ◌≤◌, ◌<◌}
 use mathlib.Core.Path.{◌≡◌, sym, ap, ◌∙◌}
 use mathlib.Core.Bool.{Bool, true, false}
 use mathlib.Core.List.{List, [], ◌∷◌}
@@ -55,9 +55,11 @@ module _ (n : ℕ) (s : List ℕ) (seen : List Bool) (i : ℕ) (v : Marking n s 
   mark_new e = next (unmarked seen x later v.marked e)
 
   -- b says whether it is among the later ones, as the code lends them
-  module _ (b : Bool) (e : b ≡ mem x (take (n - i) (drop i s))) where
+  module _ (b : Bool) (e : b ≡ mem x (take (n - (i - 1 + 1)) (drop (i - 1 + 1) s))) where
     found : b ≡ mem x later
-    found = e ∙ ap (mem x) (slice_lent i n s v.low v.fits)
+    found =
+        let q : i - 1 + 1 ≡ i = omega arith in
+        e ∙ ap (λ (j : ℕ). mem x (take (n - j) (drop j s))) q ∙ ap (mem x) (slice_lent i n s v.low v.fits)
 
     pub mark_twice : b ≡ true → false ≡ distinct (take n s)
     unfolding distinct

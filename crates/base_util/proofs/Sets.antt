@@ -10,7 +10,7 @@ use native.Mathlib.Omega.{arith}
 use lib.ListN.{length, take, drop, get_or, set, length-set, length-append, length-drop, get_or-append}
 use lib.Seq.{take-length, take-take, take-suc, get_or_at, get_or-append-add, get_or-set_same, set_at, set-append_left, length-take-le}
 use lib.Dec.{eqb, leb}
-use borrow.Author.Tests.{lt-leb, le-leb, leb-true, eq-eqb, eqb-true}
+use borrow.Author.Tests.{lt-leb, le-leb, leb-true, eq-eqb, ne_eqb, eqb-true, eqb-false}
 use borrow.Rule.Slice.PartMut.{put_mid}
 use Rattle.base_lists.specs.Array.{pad}
 use Rattle.base_lists.specs.Lists.{null, index_of, rank, remove, shift_remove, swap_remove, insert_at, insert, without, without_all, renew, mem, distinct, rising}
@@ -25,6 +25,15 @@ use Rattle.base_scan.specs.Words.{unused}
 use Rattle.base_util.specs.Section.{part, Filled, items_at, ValidSet, HoldsSet, valid_set, section}
 use Rattle.base_util.proofs.Columns.{filled_of}
 use Rattle.base_util.proofs.Parts.{part_long, part_put, part_set_after, first_put_long}
+
+-- without a list of one is without that one
+without_one : (x : ℕ) (xs : List ℕ) → without_all (x ∷ []) xs ≡ without x xs
+unfolding without without_all mem
+without_one x [] = refl
+without_one x (q ∷ xs) =
+    split (eqb x q)
+    (λ t. let u : eqb q x ≡ true = eq-eqb q x (sym (eqb-true x q t)) in rw (t, u) (without_one x xs))
+    (λ t. let u : eqb q x ≡ false = ne_eqb q x (λ e. eqb-false x q t (sym e)) in rw (t, u) (ap (λ (l : List ℕ). q ∷ l) (without_one x xs)))
 
 -- ---- a set
 
@@ -321,6 +330,11 @@ module _ (n : ℕ) (s : List ℕ) (v : ValidSet n s) where
       → k ≡ length (without_all (take (get_or skip m 0) skip) (take (get_or s n 0) (part 0 n s))) → k ≤ get_or s n 0 → HoldsSet n (set (put_mid 0 n s ys) n k) (without_all (items_at m skip) (items_at n s))
   left_without_all m skip ys k w o q h = set_as n _ _ _ (set_stored n s ys _ k v o q (omega (arith, v.fits))) (skipped m skip w)
 
+  pub left_without : (x : ℕ) (ys : List ℕ) (k : ℕ) → ys ≡ pad 0 (length (part 0 n s)) (without_all (x ∷ []) (take (get_or s n 0) (part 0 n s)))
+      → k ≡ length (without_all (x ∷ []) (take (get_or s n 0) (part 0 n s))) → k ≤ get_or s n 0 → HoldsSet n (set (put_mid 0 n s ys) n k) (without x (items_at n s))
+  unfolding items_at
+  left_without x ys k o q h = set_as n _ _ _ (set_stored n s ys _ k v o q (omega (arith, v.fits))) (without_one x _)
+
   pub cut_short : (k : ℕ) (ys : List ℕ) → k < get_or s n 0 → ys ≡ pad 0 (length (part 0 n s)) (take k (part 0 n s)) → HoldsSet n (set (put_mid 0 n s ys) n k) (take k (items_at n s))
   unfolding items_at
   cut_short k ys h o =
@@ -342,52 +356,3 @@ module _ (n : ℕ) (s : List ℕ) (v : ValidSet n s) where
       ap (λ (j : ℕ). get_or (ys ++ drop n s) j 0) (let k : n ≡ length ys + 0 = omega arith in k) ∙ get_or-append-add ys (drop n s) 0 0 ∙ lib.Seq.get_or-drop n s 0 0
       ∙ ap (λ (j : ℕ). get_or s j 0) (let k : n + 0 ≡ n = omega arith in k) ∙ sym v.counted ∙ sym q in
       set_of n (put_mid 0 n s ys) xs w (part_put 0 n s ys (omega arith) m ∙ p) c (omega (arith, few_items))
-
--- ---- every x leaves
-
-without_absent : (x : ℕ) (xs : List ℕ) → length xs ≤ index_of x xs → without x xs ≡ xs
-unfolding without index_of
-without_absent x [] h = refl
-without_absent x (q ∷ xs) h =
-    split (eqb x q) (λ t. absurd (not-suc-le-zero (rw t at h)))
-    (λ t. rw t (ap (λ (l : List ℕ). q ∷ l) (without_absent x xs (le_of_suc-le-suc (rw t at h)))))
-
-without_first : (x : ℕ) (xs : List ℕ) → index_of x xs < length xs → without x (shift_remove (index_of x xs) xs) ≡ without x xs
-unfolding without index_of shift_remove
-without_first x [] h = refl
-without_first x (q ∷ xs) h =
-    split (eqb x q) (λ t. rw t)
-    (λ t. rw (t, t) (ap (λ (l : List ℕ). q ∷ l) (without_first x xs (le_of_suc-le-suc (rw t at h)))))
-
--- k items are left, of which x is the i-th, and they and those of s₀ are one without x
-pub record Dropping (n : ℕ) (s₀ : List ℕ) (x : ℕ) (s : List ℕ) (k i : ℕ) : Type 0 where
-  pub valid : ValidSet n s
-  pub count : length (items_at n s) ≡ k
-  pub fits : k ≤ length s
-  pub left : without x (items_at n s) ≡ without x (items_at n s₀)
-  pub place : i ≡ index_of x (items_at n s)
-
-pub dropping_start : (n : ℕ) (s : List ℕ) (x i : ℕ) → ValidSet n s → i ≡ index_of x (take (get_or s n 0) s) → Dropping n s x s (get_or s n 0) i
-dropping_start n s x i v e = record { valid = v; count = v.counted; fits = lent_fits n s v; left = refl; place = there n s x i v e }
-
-module _ (n : ℕ) (s₀ : List ℕ) (x : ℕ) (s : List ℕ) (k i : ℕ) (v : Dropping n s₀ x s k i) where
-  module _ (t : List ℕ) (g : HoldsSet n t (shift_remove i (items_at n s))) (h : i < k) where
-    less : get_or t n 0 ≡ k - 1
-    less = sym g.valid.counted ∙ ap length g.items ∙ (omega (arith, v.count, length_shift_remove i (items_at n s) (omega (arith, v.count))))
-
-    pub dropping_fits : k - 1 ≤ length t
-    dropping_fits = omega (arith, less, lent_fits n t g.valid)
-
-    pub dropping_next : (j : ℕ) → j ≡ index_of x (take (k - 1) t) → Dropping n s₀ x t (k - 1) j
-    dropping_next j e =
-        record {
-          valid = g.valid;
-          count = g.valid.counted ∙ less;
-          fits = dropping_fits;
-          left = ap (without x) g.items ∙ ap (λ (a : ℕ). without x (shift_remove a (items_at n s))) v.place
-              ∙ without_first x (items_at n s) (omega (arith, v.count, v.place)) ∙ v.left;
-          place = there n t x j g.valid (e ∙ ap (λ (a : ℕ). index_of x (take a t)) (sym less));
-        }
-
-  pub dropping_end : k ≤ i → HoldsSet n s (without x (items_at n s₀))
-  dropping_end h = record { valid = v.valid; items = sym (without_absent x (items_at n s) (omega (arith, v.count, v.place))) ∙ v.left }

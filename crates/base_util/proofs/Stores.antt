@@ -1,4 +1,4 @@
--- The loops of a column that store: its end is cleared, items leave it, and it is shuffled.
+-- What is stored into a column: its end is cleared, items leave it, and it is shuffled.
 -- Assumes nothing.
 use Prim.Native.Nat.{ℕ, ◌+◌, ◌-◌, ◌≤◌, ◌<◌}
 use mathlib.Core.Path.{◌≡◌, refl, sym, ap, ◌∙◌, subst}
@@ -6,43 +6,35 @@ use mathlib.Core.Bool.{Bool, true, false}
 use mathlib.Core.List.{List, [], ◌∷◌, ◌++◌, append-nil}
 use native.Mathlib.Numerals.{add-one}
 use native.Mathlib.Omega.{arith}
-use lib.ListN.{length, take, drop, get_or, set, length-set, length-take, take-append-drop, get_or-eq_default}
-use lib.Seq.{append_snoc, length-take-le, take-suc-set, take-set-lt, drop-set-lt, get_or-take, get_or-set_other}
+use lib.ListN.{length, take, drop, get_or, set, replicate, length-set, length-drop, take-append-drop, drop_of_length-le}
+use lib.Seq.{append_snoc, take_all, length-take-le, take-suc-set, take-set-lt, drop-set-lt, get_or-take, get_or-set_other}
 use Rattle.base_lists.specs.Array.{pad}
 use Rattle.base_lists.specs.Lists.{mem, swap, without_all}
-use Rattle.base_lists.proofs.Array.{length_pad, getD_pad, set_pad}
-use Rattle.base_lists.proofs.Front.{Front, front_start, front_step, front_end}
+use Rattle.base_lists.proofs.Array.{set_pad, pad_append}
+use Rattle.base_lists.proofs.Front.{get_d_any}
+use Rattle.std.specs.List.{swap as exchange}
+use native.Mathlib.Nat.{not-suc-le-zero}
+use native.Mathlib.Decide.{dec_lt}
 use Rattle.base_lists.proofs.Rest.{Rest, rest_next, rest_end}
 use Rattle.base_util.specs.Chances.{pick_draws, pick, shuffle_down, draws_down, shuffle, shuffle_draws}
 use Rattle.base_util.proofs.Chances.{length_swapped, length_shuffled, picks_next, shuffle_step, draws_step}
-use borrow.Rule.Slice.PartMut.{put_mid}
+use borrow.Rule.Slice.PartMut.{mid_of, put_mid}
 use Rattle.base_util.specs.Section.{working_places, part, Filled, items_at, ValidSet, HoldsSet}
 use Rattle.base_util.proofs.Columns.{filled_length}
 use Rattle.base_util.proofs.Sets.{rearranged}
 
 -- ---- zeroes from place k on
 
-abbrev pub Clearing : List ℕ → ℕ → List ℕ → ℕ → Type 0
-Clearing s₀ k s i = (k ≤ i) × Front 0 (length s₀) (pad 0 (length s₀) (take k s₀)) s₀ s i
+module _ (s : List ℕ) (k : ℕ) where
+  pub cleared_past : (ys : List ℕ) → k < length s → ys ≡ replicate (length (mid_of k (length s - k) s)) 0 → put_mid k (length s - k) s ys ≡ pad 0 (length s) (take k s)
+  cleared_past ys h e =
+      let m : length (take (length s - k) (drop k s)) ≡ length s - k = length-take-le (length s - k) (drop k s) (omega (arith, length-drop k s)) in
+      let p : drop (length s - k) (drop k s) ≡ [] = drop_of_length-le (drop k s) {i = length s - k} (omega (arith, length-drop k s)) in
+      (λ j. take k s ++ ((e ∙ ap (λ (i : ℕ). replicate i 0) m) j ++ p j)) ∙ ap (λ (l : List ℕ). take k s ++ l) (append-nil (replicate (length s - k) 0))
+      ∙ sym (pad_append 0 (length s) (length s - k) (take k s) (omega (arith, length-take-le k s (omega arith))))
 
-module _ (s₀ : List ℕ) (k : ℕ) where
-  wanted : (j : ℕ) → get_or (pad 0 (length s₀) (take k s₀)) j 0 ≡ get_or (take k s₀) j 0
-  wanted j = getD_pad 0 (length s₀) (take k s₀) j (omega (arith, length-take k s₀))
-
-  past : (j : ℕ) → k ≤ j → get_or (pad 0 (length s₀) (take k s₀)) j 0 ≡ 0
-  past j h = wanted j ∙ get_or-eq_default (take k s₀) 0 (omega (arith, length-take k s₀))
-
-  pub clearing_start : Front 0 (length s₀) (pad 0 (length s₀) (take k s₀)) s₀ s₀ k
-  clearing_start = front_start 0 _ _ k refl (λ j p. sym (wanted j ∙ get_or-take k s₀ j 0 p))
-
-  module _ (s : List ℕ) (i : ℕ) (h : k ≤ i) (v : Front 0 (length s₀) (pad 0 (length s₀) (take k s₀)) s₀ s i) where
-    pub clearing_next : i < length s → Front 0 (length s₀) (pad 0 (length s₀) (take k s₀)) s₀ (set s i 0) (i + 1)
-    clearing_next p = front_step v 0 (omega (arith, v.long)) (sym (past i h))
-
-    pub clearing_end : length s ≤ i → s ≡ pad 0 (length s₀) (take k s₀)
-    clearing_end p =
-        front_end v (length_pad 0 (length s₀) (take k s₀))
-        (λ j q. get_or-eq_default s₀ 0 (omega (arith, v.long)) ∙ sym (past j (omega arith)))
+  pub none_past : length s ≤ k → s ≡ pad 0 (length s) (take k s)
+  none_past h = let t = take_all k s h in sym (pad_append 0 (length s) 0 (take k s) (omega (arith, ap length t)) ∙ append-nil (take k s) ∙ t)
 
 -- ---- the items that are not in a list
 
@@ -223,14 +215,14 @@ unfolding part
 put_back n s₀ s e = ap (λ (l : List ℕ). take n s ++ l) (sym e) ∙ take-append-drop n s
 
 module _ (n : ℕ) (s ds : List ℕ) (at : ℕ) (v : ValidSet n s) where
-  pub turn_few : get_or s n 0 < 2 → HoldsSet n s (shuffle (drop at ds) (items_at n s))
+  turn_few : get_or s n 0 < 2 → HoldsSet n s (shuffle (drop at ds) (items_at n s))
   turn_few h =
       subst (λ (t : List ℕ). HoldsSet n t (shuffle (drop at ds) (items_at n s))) (put_back n s s refl) (mixed n s (part 0 n s) ds at v (mixing_few (part 0 n s) ds at (get_or s n 0) v.filled h))
 
-  pub turn_none : get_or s n 0 < 2 → at ≡ at + shuffle_draws (drop at ds) (items_at n s)
+  turn_none : get_or s n 0 < 2 → at ≡ at + shuffle_draws (drop at ds) (items_at n s)
   turn_none h = mixed_taken n s ds at at (mixing_none (part 0 n s) ds at (get_or s n 0) v.filled h)
 
-  pub turn_start : n ≤ working_places → at ≤ length ds → 2 ≤ get_or s n 0 → Turning ds at n s s (get_or s n 0 - 1) at
+  turn_start : n ≤ working_places → at ≤ length ds → 2 ≤ get_or s n 0 → Turning ds at n s s (get_or s n 0 - 1) at
   turn_start w l h =
       record {
         valid = v;
@@ -240,16 +232,16 @@ module _ (n : ℕ) (s ds : List ℕ) (at : ℕ) (v : ValidSet n s) where
       }
 
 module _ (ds : List ℕ) (at n : ℕ) (s₀ s : List ℕ) (i k : ℕ) (v : Turning ds at n s₀ s i k) where
-  pub turn_left : k ≤ length ds + working_places
+  turn_left : k ≤ length ds + working_places
   turn_left = left_to_draw ds at _ _ _ i k v.column
 
-  pub turn_place : i < length s
+  turn_place : i < length s
   turn_place = omega (arith, v.long, v.column.low, v.valid.fits)
 
-  pub turn_drawn : (j : ℕ) → j < i + 1 → j < length s
+  turn_drawn : (j : ℕ) → j < i + 1 → j < length s
   turn_drawn j h = omega (arith, turn_place)
 
-  pub turn_next : (j m : ℕ) → j ≡ pick (i + 1) (drop k ds) → j < i + 1 → m ≡ k + pick_draws (i + 1) (drop k ds) → 0 < i → Turning ds at n s₀ (set (set s i (get_or s j 0)) j (get_or s i 0)) (i - 1) m
+  turn_next : (j m : ℕ) → j ≡ pick (i + 1) (drop k ds) → j < i + 1 → m ≡ k + pick_draws (i + 1) (drop k ds) → 0 < i → Turning ds at n s₀ (set (set s i (get_or s j 0)) j (get_or s i 0)) (i - 1) m
   unfolding part swap
   turn_next j m p q z h =
       let a : i < n = omega (arith, v.column.low, v.valid.fits) in
@@ -261,9 +253,64 @@ module _ (ds : List ℕ) (at n : ℕ) (s₀ s : List ℕ) (i k : ℕ) (v : Turni
         rest = drop-set-lt n (set s i (get_or s j 0)) j (get_or s i 0) b ∙ drop-set-lt n s i (get_or s j 0) a ∙ v.rest;
       }
 
-  pub turn_taken : i ≤ 0 → k ≡ at + shuffle_draws (drop at ds) (items_at n s₀)
+  turn_taken : i ≤ 0 → k ≡ at + shuffle_draws (drop at ds) (items_at n s₀)
   turn_taken h = mixed_taken n s₀ ds at k (mixing_taken ds at _ _ _ i k v.column h)
 
-  pub turn_end : i ≤ 0 → HoldsSet n s (shuffle (drop at ds) (items_at n s₀))
+  turn_end : i ≤ 0 → HoldsSet n s (shuffle (drop at ds) (items_at n s₀))
   turn_end h =
       subst (λ (t : List ℕ). HoldsSet n t (shuffle (drop at ds) (items_at n s₀))) (put_back n s₀ s v.rest) (mixed n s₀ (part 0 n s) ds at v.valid (mixing_end ds at _ _ _ i k v.column h))
+
+-- ---- its loop, which exchanges none of fewer than two items
+
+swap_is : (s : List ℕ) (i j : ℕ) → i < length s → j < length s → exchange s i j ≡ set (set s i (get_or s j 0)) j (get_or s i 0)
+swap_is [] i j a b = absurd (not-suc-le-zero a)
+swap_is (d ∷ ys) i j a b = (λ e. set (set (d ∷ ys) i (get_d_any (d ∷ ys) j d 0 b e)) j (get_d_any (d ∷ ys) i d 0 a e))
+
+-- the items at i and from there on stand as the shuffle leaves them
+pub record Shuffling (ds : List ℕ) (at n : ℕ) (s₀ s : List ℕ) (i k : ℕ) : Type 0 where
+  pub valid : ValidSet n s₀
+  pub top : i ≤ get_or s₀ n 0
+  pub few : get_or s₀ n 0 < 2 → (s ≡ s₀) × (k ≡ at)
+  pub more : 2 ≤ get_or s₀ n 0 → Turning ds at n s₀ s (i - 1) k
+
+pub shuffling_start : (n : ℕ) (s ds : List ℕ) (at : ℕ) → ValidSet n s → n ≤ working_places → at ≤ length ds → Shuffling ds at n s s (get_or s n 0) at
+shuffling_start n s ds at v w l = record { valid = v; top = omega arith; few = λ h. (refl, refl); more = λ h. turn_start n s ds at v w l h }
+
+module _ (ds : List ℕ) (at n : ℕ) (s₀ s : List ℕ) (i k : ℕ) (v : Shuffling ds at n s₀ s i k) where
+  module _ (h : 1 < i) where
+    turning : Turning ds at n s₀ s (i - 1) k
+    turning = v.more (omega (arith, v.top))
+
+    pub shuffling_left : k ≤ length ds + working_places
+    shuffling_left = turn_left ds at n s₀ s (i - 1) k turning
+
+    pub shuffling_place : i - 1 < length s
+    shuffling_place = turn_place ds at n s₀ s (i - 1) k turning
+
+    pub shuffling_drawn : (j : ℕ) → j < i - 1 + 1 → j < length s
+    shuffling_drawn j l = turn_drawn ds at n s₀ s (i - 1) k turning j l
+
+    pub shuffling_next : (t : List ℕ) (j m : ℕ) → t ≡ exchange s (i - 1) j → j ≡ pick (i - 1 + 1) (drop k ds) → j < i - 1 + 1 → m ≡ k + pick_draws (i - 1 + 1) (drop k ds) → Shuffling ds at n s₀ t (i - 1) m
+    shuffling_next t j m e p q z =
+        let u : t ≡ set (set s (i - 1) (get_or s j 0)) j (get_or s (i - 1) 0) = e ∙ swap_is s (i - 1) j shuffling_place (shuffling_drawn j q) in
+        record {
+          valid = v.valid;
+          top = omega (arith, v.top);
+          few = λ l. absurd (omega (arith, v.top));
+          more = λ l. subst (λ (r : List ℕ). Turning ds at n s₀ r (i - 1 - 1) m) (sym u) (turn_next ds at n s₀ s (i - 1) k turning j m p q z (omega arith));
+        }
+
+  module _ (h : i ≤ 1) where
+    pub shuffled_end : HoldsSet n s (shuffle (drop at ds) (items_at n s₀))
+    shuffled_end =
+        elim (dec_lt (get_or s₀ n 0) 2) [
+          | yes l ↦ subst (λ (r : List ℕ). HoldsSet n r (shuffle (drop at ds) (items_at n s₀))) (sym (v.few l).0) (turn_few n s₀ ds at v.valid l)
+          | no l ↦ turn_end ds at n s₀ s (i - 1) k (v.more (omega arith)) (omega arith)
+        ]
+
+    pub shuffled_taken : k ≡ at + shuffle_draws (drop at ds) (items_at n s₀)
+    shuffled_taken =
+        elim (dec_lt (get_or s₀ n 0) 2) [
+          | yes l ↦ (v.few l).1 ∙ turn_none n s₀ ds at v.valid l
+          | no l ↦ turn_taken ds at n s₀ s (i - 1) k (v.more (omega arith)) (omega arith)
+        ]

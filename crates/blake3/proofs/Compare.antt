@@ -2,10 +2,12 @@
 -- Assumes nothing.
 use Prim.Native.Nat.{ℕ, zero, suc, ◌-◌, ◌*◌, ◌/◌}
 use mathlib.Core.Path.{◌≡◌, refl, sym, ap, ◌∙◌}
-use mathlib.Core.Bool.{false}
+use mathlib.Core.Bool.{Bool, false, ◌&&◌}
 use mathlib.Core.List.{List, [], ◌∷◌, ◌++◌}
 use native.Mathlib.Omega.{arith}
+use lib.Dec.{eqb}
 use lib.ListN.{length, get_or, length-append}
+use lib.Pointwise.{pointwise}
 use lib.Seq.{slice}
 use Rattle.base_lists.specs.Bytes.{le, read_le}
 use Rattle.base_lists.specs.Lists.{same}
@@ -53,6 +55,14 @@ rejoined l h w =
     let b : le 8 (read_le 8 l 8) ++ slice 16 32 l ≡ slice 8 32 l = le_read_then 8 l 8 32 h (omega arith) (omega (arith, w)) in
     let a : le 8 (read_le 8 l 0) ++ slice 8 32 l ≡ slice 0 32 l = le_read_then 8 l 0 32 h (omega arith) (omega (arith, w)) in
     rw (d, c, b) (a ∙ ap (λ (k : ℕ). slice 0 k l) (sym w) ∙ slice_whole l)
+
+-- the library's `==` of arrays
+pub pointwise_same : (a b : List ℕ) → pointwise eqb a b ≡ same a b
+unfolding same
+pointwise_same [] [] = refl
+pointwise_same [] (y ∷ b) = refl
+pointwise_same (x ∷ a) [] = refl
+pointwise_same (x ∷ a) (y ∷ b) = ap (λ (t : Bool). eqb x y && t) (pointwise_same a b)
 
 module _ (l b : List ℕ) where
   -- equal numbers, equal bytes

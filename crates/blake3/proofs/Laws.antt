@@ -1,15 +1,17 @@
 -- Laws of the definition, which the proofs of the functions cite: each step as the code takes it.
 -- Assumes nothing.
-use Prim.Native.Nat.{ℕ, suc, ◌+◌, ◌-◌, ◌*◌, ◌/◌, ◌%◌, ◌^◌, ◌≤◌, ◌<◌}
-use mathlib.Core.Path.{◌≡◌, sym, ap, ◌∙◌, subst}
-use mathlib.Core.List.{List, [], ◌∷◌}
-use native.Mathlib.Nat.{mod-lt, add-mul, mul_assoc, add-sub_of_le, le_of_lt, add-zero, zero-add, add_assoc}
+use Prim.Native.Nat.{ℕ, zero, suc, ◌+◌, ◌-◌, ◌*◌, ◌/◌, ◌%◌, ◌^◌, ◌≤◌, ◌<◌}
+use mathlib.Core.Path.{◌≡◌, refl, sym, ap, ◌∙◌, subst}
+use mathlib.Core.List.{List, [], ◌∷◌, ◌++◌}
+use native.Mathlib.Nat.{mod-lt, add-mul, mul_assoc, add-sub_of_le, le_of_lt, add-zero, add_assoc}
 use native.Mathlib.Omega.{arith}
-use lib.Bits.{bit_or, bit_xor, or_shifted}
+use lib.Bits.{bit_or, bit_xor, or_shifted, xor_lt}
 use lib.Pow.{pow-add, pow_pos, split, low, shl_lt, shr_lt}
 use lib.Dec.{T, leb, lit≤}
-use lib.ListN.{length, get_or, drop, length-drop}
-use lib.Seq.{get_or-drop}
+use lib.ListN.{length, get_or, take, drop, replicate, length-drop}
+use mir.Syntax.{w32}
+use Rattle.std.specs.Int.{rotate_right}
+use Rattle.std.proofs.lemmas.Nat.{or_comm}
 use Rattle.base_lists.specs.Array.{pad}
 use Rattle.base_lists.specs.Bytes.{le, read_le}
 use Rattle.base_lists.proofs.Array.{getD_filled, spell, spelled}
@@ -35,15 +37,26 @@ rotated x k h w =
     ∙ ap (λ (n : ℕ). bit_or n (x / 2 ^ k)) (low (x / 2 ^ k) 32 small)
     ∙ or_shifted (x % 2 ^ k) j (x / 2 ^ k) (shr_lt j k (subst (λ (n : ℕ). x < 2 ^ n) (sym f) w))
 
+-- the library's rotation of a word
+pub turned : (k x : ℕ) → 0 < k → k < 32 → x < 2 ^ 32 → rotate_right w32 x k ≡ rotate k x
+turned k x g h w =
+    let e : k % 32 ≡ k = omega arith in
+    let f : (32 - k) % 32 ≡ 32 - k = omega arith in
+    rw (e, f) (or_comm (x / 2 ^ k) (x * 2 ^ (32 - k) % 2 ^ 32) ∙ rotated x k h w)
+
 -- a half of G, by its four words
-pub halved : (j k x : ℕ) (q : Quad) (a b c d : ℕ) → b ≡ rotate k (bit_xor q.b c) → c ≡ low_bits (q.c + d) → d ≡ rotate j (bit_xor q.d a) → a ≡ low_bits (q.a + q.b + x)
-    → ◌≡◌ {A = Quad} (record { a = a; b = b; c = c; d = d }) (half j k x q)
+pub halved : (j k x : ℕ) (q : Quad) (b d : ℕ) → (0 < j) × (j < 32) → (0 < k) × (k < 32) → q.b < 2 ^ 32 → q.d < 2 ^ 32
+    → b ≡ rotate_right w32 (bit_xor q.b ((q.c + d) % 2 ^ 32)) k → d ≡ rotate_right w32 (bit_xor q.d (((q.a + q.b) % 2 ^ 32 + x) % 2 ^ 32)) j
+    → ◌≡◌ {A = Quad} (record { a = ((q.a + q.b) % 2 ^ 32 + x) % 2 ^ 32; b = b; c = (q.c + d) % 2 ^ 32; d = d }) (half j k x q)
 unfolding half
-halved j k x q a b c d eb ec ed ea =
-    let d' = ed ∙ ap (λ (n : ℕ). rotate j (bit_xor q.d n)) ea in
-    let c' = ec ∙ ap (λ (n : ℕ). low_bits (q.c + n)) d' in
-    let b' = eb ∙ ap (λ (n : ℕ). rotate k (bit_xor q.b n)) c' in
-    λ i. record { a = ea i; b = b' i; c = c' i; d = d' i }
+halved j k x q b d p r lb ld eb ed =
+    let a' : ((q.a + q.b) % 2 ^ 32 + x) % 2 ^ 32 ≡ low_bits (q.a + q.b + x) = omega arith in
+    let d' : d ≡ rotate j (bit_xor q.d (low_bits (q.a + q.b + x))) =
+    ed ∙ turned j _ p.0 p.1 (xor_lt 32 q.d _ ld (omega arith)) ∙ ap (λ (n : ℕ). rotate j (bit_xor q.d n)) a' in
+    let c' : (q.c + d) % 2 ^ 32 ≡ low_bits (q.c + rotate j (bit_xor q.d (low_bits (q.a + q.b + x)))) = ap (λ (n : ℕ). low_bits (q.c + n)) d' in
+    let b' : b ≡ rotate k (bit_xor q.b (low_bits (q.c + rotate j (bit_xor q.d (low_bits (q.a + q.b + x)))))) =
+    eb ∙ turned k _ r.0 r.1 (xor_lt 32 q.b _ lb (omega arith)) ∙ ap (λ (n : ℕ). rotate k (bit_xor q.b n)) c' in
+    λ i. record { a = a' i; b = b' i; c = c' i; d = d' i }
 
 -- ---- bytes
 
@@ -60,12 +73,38 @@ pub by_fours : (l : List ℕ) (i : ℕ) → from_rows (quad_at l i) (quad_at l (
 unfolding message_words
 by_fours l i = simp (add_assoc, add-zero)
 
--- the words of the block that starts at a place
-pub block_at : (l : List ℕ) (at : ℕ) → block_words (drop at l) ≡ message_words l at
+-- the bytes stored before zeroes
+zeroes : (k : ℕ) → replicate {A = ℕ} k 0 ≡ pad 0 k []
+unfolding pad
+zeroes zero = refl
+zeroes (suc k) = ap (λ (l : List ℕ). 0 ∷ l) (zeroes k)
+
+stored : (l : List ℕ) (k : ℕ) → length l ≤ k → l ++ drop (length l) (replicate {A = ℕ} k 0) ≡ pad 0 k l
+unfolding pad
+stored [] k h = zeroes k
+stored (x ∷ l) zero h = absurd (omega (arith, h))
+stored (x ∷ l) (suc k) h = ap (λ (r : List ℕ). x ∷ r) (stored l k (omega (arith, h)))
+
+pub filled : (l xs : List ℕ) (n : ℕ) → length l ≤ n → xs ≡ l → xs ++ drop (length l) (replicate {A = ℕ} n 0) ≡ pad 0 n l
+filled l xs n h e = ap (λ (ys : List ℕ). ys ++ drop (length l) (replicate {A = ℕ} n 0)) e ∙ stored l n h
+
+-- the words of a block are those of its first bytes
+pad_take : (k : ℕ) (l : List ℕ) → pad 0 k (take k l) ≡ pad 0 k l
+unfolding pad
+pad_take zero l = refl
+pad_take (suc k) [] = refl
+pad_take (suc k) (x ∷ l) = ap (λ (r : List ℕ). x ∷ r) (pad_take k l)
+
+pub block_front : (l : List ℕ) → block_words (take block_length l) ≡ block_words l
+unfolding block_words
+block_front l = ap (λ (bs : List ℕ). message_words bs 0) (pad_take block_length l)
+
+-- the words of a whole block
+pub block_at : (l : List ℕ) → block_words l ≡ message_words l 0
 unfolding block_words message_words
-block_at l at =
-    let r : (i : ℕ) → T (leb (i + 4) block_length) → read_le 4 (pad 0 block_length (drop at l)) (0 + i) ≡ read_le 4 l (at + i) =
-    λ i t. read_same 4 (pad 0 block_length (drop at l)) l (0 + i) (at + i) (λ n h. getD_filled 0 block_length (drop at l) (0 + i + n) (omega (arith, lit≤ {m = i + 4} {n = block_length} t)) ∙ get_or-drop at l (0 + i + n) 0 ∙ simp (zero-add, add_assoc)) in
+block_at l =
+    let r : (i : ℕ) → T (leb (i + 4) block_length) → read_le 4 (pad 0 block_length l) (0 + i) ≡ read_le 4 l (0 + i) =
+    λ i t. read_same 4 (pad 0 block_length l) l (0 + i) (0 + i) (λ n h. getD_filled 0 block_length l (0 + i + n) (omega (arith, lit≤ {m = i + 4} {n = block_length} t))) in
     λ j. r 0 tt j ∷ r 4 tt j ∷ r 8 tt j ∷ r 12 tt j ∷ r 16 tt j ∷ r 20 tt j ∷ r 24 tt j ∷ r 28 tt j
     ∷ r 32 tt j ∷ r 36 tt j ∷ r 40 tt j ∷ r 44 tt j ∷ r 48 tt j ∷ r 52 tt j ∷ r 56 tt j ∷ r 60 tt j ∷ []
 

@@ -48,44 +48,28 @@ struct Quad {
     d: u32,
 }
 
-// ---- words
-
-// A sum of words modulo 2^32.
-fn low_bits(n: u64) -> u32
-    ensures { result ≡ B.low_bits n }
-{
-    (n % record::FOUR_BYTES_END) as u32
-}
-
-// x rotated right by k bits.
-fn rotate(x: u32, k: u32) -> u32
-    requires k_nonzero { 0 < k }
-    requires k_bound { k < 32 }
-    ensures { result ≡ B.rotate k x }
-{
-    (x << (32 - k)) | (x >> k)
-}
-
 // ---- the compression function
 
-// Half of the function G, with the rotations j and k.
-fn half(q: Quad, x: u32, j: u32, k: u32) -> Quad
-    requires j_nonzero { (0 < j) × (j < 32) }
-    requires k_nonzero { (0 < k) × (k < 32) }
-    ensures { result ≡ B.half j k x q }
-{
-    let a = low_bits(q.a as u64 + q.b as u64 + x as u64);
-    let d = rotate(q.d ^ a, j);
-    let c = low_bits(q.c as u64 + d as u64);
-    let b = rotate(q.b ^ c, k);
-    Quad { a, b, c, d }
-}
+impl Quad {
+    // Half of the function G, with the rotations j and k.
+    fn half(self, x: u32, j: u32, k: u32) -> Quad
+        requires j_nonzero { (0 < j) × (j < 32) }
+        requires k_nonzero { (0 < k) × (k < 32) }
+        ensures { result ≡ B.half j k x self }
+    {
+        let a = self.a.wrapping_add(self.b).wrapping_add(x);
+        let d = (self.d ^ a).rotate_right(j);
+        let c = self.c.wrapping_add(d);
+        let b = (self.b ^ c).rotate_right(k);
+        Quad { a, b, c, d }
+    }
 
-// The function G.
-fn g(q: Quad, x: u32, y: u32) -> Quad
-    ensures { result ≡ B.g q x y }
-{
-    half(half(q, x, 16, 12), y, 8, 7)
+    // The function G.
+    fn g(self, x: u32, y: u32) -> Quad
+        ensures { result ≡ B.g self x y }
+    {
+        self.half(x, 16, 12).half(y, 8, 7)
+    }
 }
 
 // G of the words at four places of the state, with the message words at i and after it.
@@ -101,7 +85,7 @@ fn g_at(v: [u32; 16], m: [u32; 16], a: usize, b: usize, c: usize, d: usize, i: u
         c: v[c],
         d: v[d],
     };
-    g(q, m[i], m[i + 1])
+    q.g(m[i], m[i + 1])
 }
 
 // G of each column.
@@ -151,13 +135,12 @@ fn rounds(state: [u32; 16], message: [u32; 16]) -> [u32; 16]
 {
     let mut v = state;
     let mut m = message;
-    let mut i: usize = 0;
-    while i < ROUNDS {
+    for _turn in 0..ROUNDS {
+        // By variables, since a call whose result is laid in an array that is there gets no proof.
         let w = round(v, m);
         let n = permute(m);
         v = w;
         m = n;
-        i += 1;
     }
     v
 }
@@ -218,73 +201,67 @@ fn quad_at(s: &[u8], at: usize) -> Quad
     }
 }
 
-// The sixteen words whose bytes start at a place.
-fn message_words(s: &[u8], at: usize) -> [u32; 16]
-    requires { at + B.block_length ≤ length s.now }
-    ensures { result ≡ B.message_words s.now at }
+// The sixteen words of a block.
+fn message_words(block: &[u8]) -> [u32; 16]
+    requires { B.block_length ≤ length block.now }
+    ensures { result ≡ B.message_words block.now 0 }
 {
-    let p = quad_at(s, at);
-    let q = quad_at(s, at + 16);
-    let r = quad_at(s, at + 32);
-    let t = quad_at(s, at + 48);
+    let p = quad_at(block, 0);
+    let q = quad_at(block, 16);
+    let r = quad_at(block, 32);
+    let s = quad_at(block, 48);
     [
-        p.a, p.b, p.c, p.d, q.a, q.b, q.c, q.d, r.a, r.b, r.c, r.d, t.a, t.b, t.c, t.d,
+        p.a, p.b, p.c, p.d, q.a, q.b, q.c, q.d, r.a, r.b, r.c, r.d, s.a, s.b, s.c, s.d,
     ]
 }
 
-// The bytes from a place on, filled up with zeroes to a block.
-fn padded(s: &[u8], at: usize) -> [u8; BLOCK_LEN]
-    requires at_in_bounds { at ≤ length s.now }
-    requires s_len_bound { length s.now ≤ at + B.block_length }
-    ensures { result ≡ pad 0 B.block_length (drop at s.now) }
+// The bytes, filled up with zeroes to a block.
+fn padded(s: &[u8]) -> [u8; BLOCK_LEN]
+    requires { length s.now ≤ B.block_length }
+    ensures { result ≡ pad 0 B.block_length s.now }
 {
-    let n = s.len() - at;
     let mut b = [0u8; BLOCK_LEN];
-    let mut i: usize = 0;
-    while i < n {
-        b[i] = s[at + i];
-        i += 1;
-    }
+    b[..s.len()].copy_from_slice(s);
     b
 }
 
 // ---- the chunk
 
 // The chaining value after a block that is not the last one.
-fn inner_block(cv: [u32; 8], body: &[u8], at: usize, start: u32) -> [u32; 8]
-    requires { at + B.block_length ≤ length body.now }
-    ensures { result ≡ B.compress cv (B.block_words (drop at body.now)) B.block_length start }
+fn inner_block(cv: [u32; 8], block: &[u8], start: u32) -> [u32; 8]
+    requires { B.block_length ≤ length block.now }
+    ensures { result ≡ B.compress cv (B.block_words block.now) B.block_length start }
 {
-    compress(cv, message_words(body, at), BLOCK_LEN as u32, start)
+    compress(cv, message_words(block), BLOCK_LEN as u32, start)
 }
 
 // What the last block gives.
-fn last_block(cv: [u32; 8], body: &[u8], at: usize, start: u32) -> [u32; 8]
-    requires at_in_bounds { at ≤ length body.now }
-    requires body_len_bound { length body.now ≤ at + B.block_length }
+fn last_block(cv: [u32; 8], block: &[u8], start: u32) -> [u32; 8]
+    requires block_len_bound { length block.now ≤ B.block_length }
     requires start_bound { start ≤ B.chunk_start }
-    ensures { result ≡ B.chunk cv start (drop at body.now) }
+    ensures { result ≡ B.chunk cv start block.now }
 {
-    let b = padded(body, at);
-    let m = message_words(&b, 0);
-    compress(cv, m, (body.len() - at) as u32, start + CHUNK_END + ROOT)
+    let m = message_words(&padded(block));
+    compress(cv, m, block.len() as u32, start + CHUNK_END + ROOT)
 }
 
 // The hash as eight words.
 fn chunk(body: &[u8]) -> [u32; 8]
     ensures { result ≡ B.chunk B.iv B.chunk_start body.now }
 {
-    let n = body.len();
     let mut cv = [IV_0, IV_1, IV_2, IV_3, IV_4, IV_5, IV_6, IV_7];
     let mut start = CHUNK_START;
-    let mut at: usize = 0;
-    while BLOCK_LEN < n - at {
-        let next = inner_block(cv, body, at, start);
+    let mut rest = body;
+    // Over what is left, since `chunks` gives the last block, which is another's, with the rest.
+    while BLOCK_LEN < rest.len() {
+        let (block, after) = rest.split_at(BLOCK_LEN);
+        // By a variable, as in `rounds`.
+        let next = inner_block(cv, block, start);
         cv = next;
         start = 0;
-        at += BLOCK_LEN;
+        rest = after;
     }
-    last_block(cv, body, at, start)
+    last_block(cv, rest, start)
 }
 
 // Two words as one number of eight bytes.
@@ -328,19 +305,12 @@ fn read_quarters(s: &[u8]) -> [u64; 4]
     ]
 }
 
-// Whether two times four numbers are the same.
-fn is_same(a: [u64; 4], b: [u64; 4]) -> bool
-    ensures { result ≡ same a b }
-{
-    (a[0] == b[0]) & ((a[1] == b[1]) & ((a[2] == b[2]) & (a[3] == b[3])))
-}
-
 // `Gossip::validate`: whether the bytes are the hash of the body.
 pub fn is_hash(body: &[u8], id: &[u8]) -> bool
     ensures { result ≡ same id.now (B.hash body.now) }
 {
     if id.len() == OUT_LEN {
-        return is_same(read_quarters(id), hash(body));
+        return read_quarters(id) == hash(body);
     }
     false
 }

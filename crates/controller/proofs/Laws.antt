@@ -16,6 +16,11 @@ use Rattle.hyparview.specs.Made.{made}
 use Rattle.hyparview.specs.Handled.{handled_from}
 use Rattle.controller.specs.Calls.{with_tally, begun, tallied, called}
 
+-- the tally by default
+pub zeroes : (t : Tally) → t.join ≡ 0 × (t.forward_join ≡ 0 × (t.shuffle ≡ 0 × (t.shuffle_reply ≡ 0 × (t.neighbor ≡ 0 × t.disconnect ≡ 0)))) → t ≡ no_messages
+unfolding no_messages
+zeroes t e = λ i. record { join = e.0 i; forward_join = e.1.0 i; shuffle = e.1.1.0 i; shuffle_reply = e.1.1.1.0 i; neighbor = e.1.1.1.1.0 i; disconnect = e.1.1.1.1.1 i }
+
 module _ (xs : List ℕ) (t : Tally) (me : ℕ) (d : Data) (c : Config) (code : ℕ) (ys : List ℕ) (is : record { code = code; words = ys } ≡ made xs me d c) where
   pub begun_kept : code ≡ 2 → record { code = code; words = ys; tally = t } ≡ begun xs t me d c
   unfolding begun with_tally choose

@@ -11,8 +11,7 @@ use Rattle.base_lists.specs.Lists.{choose}
 use Rattle.base_lists.proofs.Choice.{choose_yes, split}
 use Rattle.record.specs.declared.Header.{Header}
 use Rattle.record.specs.declared.Entry.{Entry}
-use Rattle.record.specs.declared.Answer.{Answer}
-use Rattle.record.specs.declared.Answer.TheVariants.{Record, Malformed}
+use Rattle.std.specs.Prelude.{Option, Some, None}
 use Rattle.record.specs.Format.{header_length, node_length}
 use Rattle.record.specs.Read.{well_formed, header_of, entry_at}
 use Rattle.record.specs.Answers.{answer}
@@ -22,15 +21,15 @@ use Rattle.controller.specs.declared.NodeReading.{NodeReading}
 use Rattle.controller.specs.Reader.{no_header, reading, no_entry, node_reading}
 
 -- bytes that the reader finds malformed are no record
-malformed : (b : List ℕ) → answer b ≡ Malformed → well_formed b ≡ false
+malformed : (b : List ℕ) → answer b ≡ None → well_formed b ≡ false
 unfolding answer
 malformed b a =
     split (well_formed b)
-    (λ y. absurd (let q : Record (header_of b) ≡ Malformed = sym (choose_yes (well_formed b) (Record (header_of b)) Malformed y) ∙ a in let z : ◌≡◌ {A = ℕ} 0 1 = cc in omega arith))
+    (λ y. absurd (let q : Some (header_of b) ≡ None = sym (choose_yes (well_formed b) (Some (header_of b)) None y) ∙ a in let z : ◌≡◌ {A = ℕ} 0 1 = cc in omega arith))
     (λ n. n)
 
-module _ (b : List ℕ) (a : Answer) (p : a ≡ answer b) where
-  module _ (h : Header) (q : a ≡ Record h) where
+module _ (b : List ℕ) (a : Option Header) (p : a ≡ answer b) where
+  module _ (h : Header) (q : a ≡ Some h) where
     found : Found b h
     found = answer_found b h (sym p ∙ q)
 
@@ -49,7 +48,7 @@ module _ (b : List ℕ) (a : Answer) (p : a ≡ answer b) where
     unfolding node_reading choose
     node_past i r l e = rw (e, found.well, le-ltb i (header_of b).nodes (rw (← found.header) l))
 
-  module _ (q : a ≡ Malformed) where
+  module _ (q : a ≡ None) where
     pub read_nothing : (h : Header) → h ≡ no_header → record { ok = false; header = h } ≡ reading b
     unfolding reading choose
     read_nothing h e = rw (e, malformed b (sym p ∙ q))

@@ -2,7 +2,6 @@
 #![tactic(auto)]
 
 ghost use Rattle.std.specs.Prelude.{◌≡◌, length, get_or};
-ghost use Rattle.tally.specs.History.{no_messages};
 ghost use Rattle.spec_hyparview.specs.Sides.{side_of};
 ghost use Rattle.hyparview.specs.Queries.{wants_connection_in, is_neighbor_in, neighbors_in, spare_addresses_in};
 ghost use Rattle.controller.specs.Calls.{version, CallsNew, CallsHandle};
@@ -21,7 +20,7 @@ pub struct Start {
     pub tally: Tally,
 }
 
-// A record's header, or not ok and zeroes.
+// A record's header, or not ok and zeroes, since C has no Option.
 #[repr(C)]
 #[derive(Clone, Copy)]
 pub struct HeaderReading {
@@ -63,33 +62,17 @@ pub fn hyparview_handle(
     r
 }
 
-fn no_messages() -> Tally
-    ensures { result ≡ no_messages }
-{
-    Tally {
-        join: 0,
-        forward_join: 0,
-        shuffle: 0,
-        shuffle_reply: 0,
-        neighbor: 0,
-        disconnect: 0,
-    }
-}
-
 // A new station in the lent words, its tally by value; own data is absent where `present` is 0.
 fn begun(st: &mut [u64], t: Tally, me: PeerId, present: u8, own: &[u8], config: Config) -> Start
     ensures { CallsNew result.code result.tally st t me present own config }
 {
     let code = hyparview::new(st, me, present != 0, own, config);
-    if code == Refusal::STATE {
-        return Start {
-            code: code,
-            tally: t,
-        };
+    if code == u32::from(Refusal::State) {
+        return Start { code, tally: t };
     }
     Start {
-        code: code,
-        tally: no_messages(),
+        code,
+        tally: Tally::default(),
     }
 }
 
@@ -144,6 +127,7 @@ pub fn hyparview_spare_addresses(st: &[u64]) -> usize
     hyparview::spare_addresses(st)
 }
 
+// Written out, and no Default: a header of zeroes is that of a Join.
 fn no_header() -> Header
     ensures { result ≡ no_header }
 {
@@ -164,44 +148,39 @@ fn no_header() -> Header
 pub fn hyparview_read(b: &[u8]) -> HeaderReading
     ensures { result ≡ reading b.now }
 {
-    let a = record::read(b);
-    match a {
-        record::Answer::Record(h) => HeaderReading {
-            ok: true,
-            header: h,
-        },
-        record::Answer::Malformed => HeaderReading {
+    match record::read(b) {
+        Some(header) => HeaderReading { ok: true, header },
+        None => HeaderReading {
             ok: false,
             header: no_header(),
         },
     }
 }
 
+// Written out, and no Default: an entry of zeroes is that of peer 0 without data.
 fn no_node() -> NodeReading
     ensures { result ≡ no_entry }
 {
-    let e = Entry {
-        id: 0,
-        offset: 0,
-        len: 0,
-        present: 0,
-    };
-    NodeReading { ok: false, node: e }
+    NodeReading {
+        ok: false,
+        node: Entry {
+            id: 0,
+            offset: 0,
+            len: 0,
+            present: 0,
+        },
+    }
 }
 
 // The i-th node of a record; its data is a part of the record's own bytes.
 pub fn hyparview_node(b: &[u8], i: usize) -> NodeReading
     ensures { result ≡ node_reading b.now i }
 {
-    let a = record::read(b);
-    match a {
-        record::Answer::Record(h) => {
-            if i < h.nodes as usize {
-                let e = record::node(b, i);
-                return NodeReading { ok: true, node: e };
-            }
-            no_node()
-        }
-        record::Answer::Malformed => no_node(),
+    match record::read(b) {
+        Some(h) if i < h.nodes as usize => NodeReading {
+            ok: true,
+            node: record::node(b, i),
+        },
+        _ => no_node(),
     }
 }

@@ -2,7 +2,8 @@
 -- Assumes nothing.
 use Prim.Native.Nat.{ℕ, zero, suc, ◌+◌, ◌-◌, ◌*◌, ◌%◌, ◌≤◌, ◌<◌}
 use mathlib.Core.Path.{◌≡◌, refl, sym, ap, subst, ◌∙◌}
-use mathlib.Core.Bool.{◌&&◌}
+use mathlib.Core.Bool.{Bool, true, false, ◌&&◌}
+use Rattle.std.specs.Int.{from_bool}
 use mathlib.Core.List.{List, [], ◌∷◌, ◌++◌, map}
 use native.Mathlib.Nat.{pos_of_ne-zero}
 use native.Mathlib.Numerals.{add-one}
@@ -25,16 +26,21 @@ use Rattle.endings.proofs.Different.{sixteen}
 
 -- ---- one history
 
-ends_are : (a b : Ends) → a.neither ≡ b.neither → a.passive ≡ b.passive → a.active ≡ b.active → a.both ≡ b.both → a.digest ≡ b.digest → a ≡ b
+pub ends_are : (a b : Ends) → a.neither ≡ b.neither → a.passive ≡ b.passive → a.active ≡ b.active → a.both ≡ b.both → a.digest ≡ b.digest → a ≡ b
 ends_are a b n p v t d = λ i. record { neither = n i; passive = p i; active = v i; both = t i; digest = d i }
 
+one_if : (b : Bool) → from_bool b ≡ choose b 1 0
+unfolding choose
+one_if true = refl
+one_if false = refl
+
 pub counted : (s : State) (k : ℕ) (c : Ends) (a p n₀ n₁ n₂ n₃ : ℕ) → a ≡ length (neighbors_in s.words) → p ≡ spare_addresses_in s.words
-    → n₀ ≡ choose (eqb a 0 && eqb p 0) 1 0 → n₁ ≡ choose (eqb a 0 && eqb p 1) 1 0 → n₂ ≡ choose (eqb a 1 && eqb p 0) 1 0 → n₃ ≡ choose (eqb a 1 && eqb p 1) 1 0
+    → n₀ ≡ from_bool (eqb a 0 && eqb p 0) → n₁ ≡ from_bool (eqb a 0 && eqb p 1) → n₂ ≡ from_bool (eqb a 1 && eqb p 0) → n₃ ≡ from_bool (eqb a 1 && eqb p 1)
     → record { neither = c.neither + n₀; passive = c.passive + n₁; active = c.active + n₂; both = c.both + n₃; digest = (c.digest * 65537 + k) % digest_end } ≡ one_more (sizes_in s []) k c
 unfolding one_more sizes_in after_history next_digest
 counted s k c a p n₀ n₁ n₂ n₃ ea ep e₀ e₁ e₂ e₃ =
     let z = sizes_in s [] in
-    let count : (x y n : ℕ) → n ≡ choose (eqb a x && eqb p y) 1 0 → n ≡ choose (eqb z.0 x && eqb z.1 y) 1 0 = λ x y n e. e ∙ (λ i. choose (eqb (ea i) x && eqb (ep i) y) 1 0) in
+    let count : (x y n : ℕ) → n ≡ from_bool (eqb a x && eqb p y) → n ≡ choose (eqb z.0 x && eqb z.1 y) 1 0 = λ x y n e. e ∙ one_if (eqb a x && eqb p y) ∙ (λ i. choose (eqb (ea i) x && eqb (ep i) y) 1 0) in
     ends_are _ _ (ap (λ (n : ℕ). c.neither + n) (count 0 0 n₀ e₀)) (ap (λ (n : ℕ). c.passive + n) (count 0 1 n₁ e₁)) (ap (λ (n : ℕ). c.active + n) (count 1 0 n₂ e₂))
     (ap (λ (n : ℕ). c.both + n) (count 1 1 n₃ e₃)) refl
 
@@ -121,7 +127,6 @@ come_length i n h =
 pub record Extending (s : State) (k left : ℕ) (c sum : Ends) (i : ℕ) : Type 0 where
   pub low : i ≤ 16
   pub more : 0 < left
-  pub number : k < digest_end
   pub room : CountRoom sum (length (to_come i (left - 1)))
   pub same : counted_on s k c (of_length event_records left) ≡ counted_on s k sum (to_come i (left - 1))
 
@@ -130,11 +135,10 @@ unfolding of_length
 longer zero f = absurd (f refl)
 longer (suc n) f = ap (λ (m : ℕ). each event_records (of_length event_records m)) (let e : n ≡ suc n - 1 = omega arith in e)
 
-pub extending_start : (s : State) (k left : ℕ) (c : Ends) → (left ≡ 0 → ⊥) → CountRoom c (length (of_length event_records left)) → k < digest_end → Extending s k left c c 0
-extending_start s k left c f r l = record {
+pub extending_start : (s : State) (k left : ℕ) (c : Ends) → (left ≡ 0 → ⊥) → CountRoom c (length (of_length event_records left)) → Extending s k left c c 0
+extending_start s k left c f r = record {
   low = omega arith;
   more = pos_of_ne-zero f;
-  number = l;
   room = subst (λ (hs : List History). CountRoom c (length hs)) (longer left f) r;
   same = ap (counted_on s k c) (longer left f);
 }
@@ -155,7 +159,6 @@ module _ (s : State) (k left : ℕ) (c sum : Ends) (i : ℕ) (v : Extending s k 
       record {
         low = omega arith;
         more = v.more;
-        number = v.number;
         room = subst (λ (x : Ends). CountRoom x (length rest)) (sym here)
             (room_less s k (map (λ g. b ∷ g) hs) (length rest) sum (subst (CountRoom sum) (come_length i n h ∙ ap (λ (m : ℕ). m + length rest) (sym many)) v.room));
         same = v.same ∙ (ap (counted_on s k sum) (come_next i n h) ∙ (counted_append s k sum (map (λ g. b ∷ g) hs) rest ∙ ap (λ (x : Ends). counted_on s k x rest) (sym here)));
@@ -210,9 +213,9 @@ pub record Counting (s : State) (sum : Ends) (n : ℕ) : Type 0 where
   pub low : n ≤ 5
   pub same : sum ≡ counted_on s 0 none_counted (shorter n)
 
-pub counting_start : (s : State) → s ≡ first_state → Counting s none_counted 0
+pub counting_start : (s : State) (sum : Ends) → s ≡ first_state → sum ≡ none_counted → Counting s sum 0
 unfolding counted_on
-counting_start s e = record { begun = e; low = omega arith; same = refl }
+counting_start s sum e q = record { begun = e; low = omega arith; same = q }
 
 module _ (s : State) (sum : Ends) (n : ℕ) (v : Counting s sum n) (h : n < 5) where
   pub counting_room : CountRoom sum (length (of_length event_records n))

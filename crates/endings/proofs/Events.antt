@@ -18,13 +18,11 @@ use Rattle.base_lists.proofs.Stored.{take_stored}
 use Rattle.base_timing.specs.Timing.{default}
 use Rattle.base_timing.specs.declared.Config.{Config}
 use Rattle.base_peer.specs.Data.{Data, bytes_of}
-use Rattle.base_peer.specs.Held.{HoldsData, node_in}
-use Rattle.base_peer.specs.declared.PeerData.{PeerData}
+use Rattle.std.specs.Prelude.{Option, Some, None, unwrap_or}
+use Rattle.base_peer.specs.Held.{node_in, data_in}
 use Rattle.record.specs.Format.{header_length, node_length, Rec, datas, size, size_by, encode}
 use Rattle.record.proofs.Format.{length_encode}
 use Rattle.record_writer.specs.Write.{rec_in, fits, written, reached, Wrote}
-use Rattle.record_writer.specs.declared.Written.{Written}
-use Rattle.record_writer.specs.declared.Written.TheVariants.{At, Full}
 use Rattle.spec_hyparview.specs.Handle.{new}
 use Rattle.hyparview.specs.declared.State.{State}
 use Rattle.hyparview.specs.declared.MadeState.{MadeState}
@@ -39,17 +37,17 @@ use Rattle.endings.specs.Steps.{first_state, played}
 
 -- ---- the writers
 
-pub wrote_one : (m f p : ℕ) (d : PeerData) (out : List ℕ) (r : Written) (o : List ℕ) → HoldsData d none
-    → Wrote (rec_in (record { kind = 0; message = m; flags = f; peer = p; second = 0; ttl = 0; number = 0 }) (node_in (record { id = 0; «data» = d }) ∷ [])) 0 out r o
+pub wrote_one : (m f p : ℕ) (out : List ℕ) (r : Option ℕ) (o : List ℕ)
+    → Wrote (rec_in (record { kind = 0; message = m; flags = f; peer = p; second = 0; ttl = 0; number = 0 }) (node_in (record { id = 0; «data» = None }) ∷ [])) 0 out r o
     → Wrote (message_event m f p no_data_node) 0 out r o
-unfolding rec_in node_in
-wrote_one m f p d out r o h w = subst (λ (x : Data). Wrote (message_event m f p (record { id = 0; data_of = x } ∷ [])) 0 out r o) h.holds w
+unfolding rec_in node_in data_in
+wrote_one m f p out r o w = w
 
 -- below suc n and not n
 down : (i n : ℕ) → i < suc n → (i ≡ n → ⊥) → i < n
 down i n h f = split (ltb i n) (λ t. ltb-true i n t) (λ t. absurd (f (omega (arith, ltb-false i n t))))
 
-module _ (p i : ℕ) (out : List ℕ) (r : Written) (o : List ℕ) where
+module _ (p i : ℕ) (out : List ℕ) (r : Option ℕ) (o : List ℕ) where
   pub at_0 : i ≡ 0 → Wrote (event (kind_byte RequestJoin) 0 0 p []) 0 out r o → Wrote (get_or (of_peer p) i quit) 0 out r o
   unfolding of_peer
   at_0 h w = rw h w
@@ -82,7 +80,7 @@ module _ (p i : ℕ) (out : List ℕ) (r : Written) (o : List ℕ) where
       six : (i < 6 → i < 0) → i ≡ 6
       six never = split (ltb i 6) (λ t. absurd (omega (arith, never (ltb-true i 6 t)))) (λ t. omega (arith, h, ltb-false i 6 t))
 
-module _ (i : ℕ) (out : List ℕ) (r : Written) (o : List ℕ) where
+module _ (i : ℕ) (out : List ℕ) (r : Option ℕ) (o : List ℕ) where
   pub of_two : i < 7 → Wrote (get_or (of_peer 2) i quit) 0 out r o → Wrote (event_at i) 0 out r o
   unfolding event_at events of_peer
   of_two h w = rw (get_or-append (of_peer 2) (of_peer 3 ++ (maintenance ∷ quit ∷ [])) quit i h) w
@@ -141,11 +139,11 @@ small : (i : ℕ) → leb (0 + size (event_at i)) longest ≡ true
 unfolding event_at events of_peer size_by datas bytes_of every
 small i = passes_at (λ e. leb (0 + size e) longest) quit refl events refl i
 
-module _ (i : ℕ) (out : List ℕ) (long : length out ≡ longest) (w : Written) (b : List ℕ) (h : Wrote (event_at i) 0 out w b) where
+module _ (i : ℕ) (out : List ℕ) (long : length out ≡ longest) (w : Option ℕ) (b : List ℕ) (h : Wrote (event_at i) 0 out w b) where
   fitting : leb (0 + size (event_at i)) (length out) ≡ true
   fitting = ap (λ (n : ℕ). leb (0 + size (event_at i)) n) long ∙ small i
 
-  fit : w ≡ At (0 + size (event_at i))
+  fit : w ≡ Some (0 + size (event_at i))
   unfolding reached fits
   fit = h.answer ∙ choose_yes _ _ _ fitting
 
@@ -153,16 +151,13 @@ module _ (i : ℕ) (out : List ℕ) (long : length out ≡ longest) (w : Written
   unfolding written fits
   stored = h.bytes ∙ choose_yes _ _ _ fitting
 
-  pub full_never : w ≡ Full → ⊥
-  full_never e = let f : At (0 + size (event_at i)) ≡ Full = sym fit ∙ e in let z : ◌≡◌ {A = ℕ} 0 1 = cc in omega arith
+  reaches : (n : ℕ) → n ≡ unwrap_or w 0 → 0 + size (event_at i) ≡ n
+  reaches n e = sym (e ∙ ap (λ (x : Option ℕ). unwrap_or x 0) fit)
 
-  reaches : (n : ℕ) → w ≡ At n → 0 + size (event_at i) ≡ n
-  reaches n e = let g : At (0 + size (event_at i)) ≡ At n = sym fit ∙ e in cc
-
-  pub few_bytes : (n : ℕ) → w ≡ At n → n ≤ longest
+  pub few_bytes : (n : ℕ) → n ≡ unwrap_or w 0 → n ≤ longest
   few_bytes n e = subst (λ (k : ℕ). k ≤ longest) (reaches n e) (leb-true _ _ (small i))
 
-  pub the_bytes : (n : ℕ) → w ≡ At n → take n b ≡ encode (event_at i)
+  pub the_bytes : (n : ℕ) → n ≡ unwrap_or w 0 → take n b ≡ encode (event_at i)
   the_bytes n e =
       let whole = length_encode (event_at i) in
       let k : 0 + length (encode (event_at i)) ≡ n = omega (arith, whole, reaches n e) in

@@ -10,11 +10,11 @@ ghost use Rattle.endings.specs.Events.{no_data_node, event, message_event, of_pe
 ghost use Rattle.endings.specs.Ends.{events_of_peer, events_in_all, digest_end, next_number, all_ends};
 ghost use Rattle.endings.specs.Steps.{first_state, played, sizes_in, one_more, counted_on, CountRoom};
 
-use base_peer::{PeerData, PeerId, PeerInfo};
+use base_peer::{PeerId, PeerInfo};
 use base_timing::Timing;
 use hyparview::State;
 use record::{Flags, Kind, Message};
-use record_writer::{Fields, Written};
+use record_writer::Fields;
 
 // How many events are of one peer, of both peers, and there are with maintenance and Quit.
 const EVENTS_OF_PEER: usize = 7;
@@ -38,7 +38,7 @@ const DIGEST_END: u64 = 17592186044399;
 
 // How many histories end so: with no peer in a view, with one in the passive view alone, in the active view alone, in both.
 // The digest is made of their numbers in turn: it tells which records were played, and in which order.
-#[derive(Clone, Copy)]
+#[derive(Clone, Copy, Default)]
 pub struct Ends {
     pub neither: u32,
     pub passive: u32,
@@ -48,13 +48,13 @@ pub struct Ends {
 }
 
 // An event of a peer without nodes.
-fn put_bare(out: &mut [u8], kind: u8, message: u8, flags: u8, p: PeerId) -> Written
+fn put_bare(out: &mut [u8], kind: u8, message: u8, flags: u8, p: PeerId) -> Option<usize>
     ensures { Wrote (event kind message flags p []) 0 out.old result out.new }
 {
     let f = Fields {
-        kind: kind,
-        message: message,
-        flags: flags,
+        kind,
+        message,
+        flags,
         peer: p,
         second: 0,
         ttl: 0,
@@ -64,51 +64,40 @@ fn put_bare(out: &mut [u8], kind: u8, message: u8, flags: u8, p: PeerId) -> Writ
 }
 
 // A message of a peer with one node, without data.
-fn put_one(out: &mut [u8], message: u8, flags: u8, p: PeerId) -> Written
+fn put_one(out: &mut [u8], message: u8, flags: u8, p: PeerId) -> Option<usize>
     ensures { Wrote (message_event message flags p no_data_node) 0 out.old result out.new }
 {
     let f = Fields {
         kind: Kind::MESSAGE,
-        message: message,
-        flags: flags,
+        message,
+        flags,
         peer: p,
         second: 0,
         ttl: 0,
         number: 0,
     };
-    let none = PeerData::absent();
-    let n = PeerInfo { id: 0, data: none };
+    let n = PeerInfo { id: 0, data: None };
     record_writer::write_one(out, 0, f, n)
 }
 
 // The seven events of a peer, in the order of the request.
-fn put_of_peer(out: &mut [u8], i: usize, p: PeerId) -> Written
+fn put_of_peer(out: &mut [u8], i: usize, p: PeerId) -> Option<usize>
     requires { i < events_of_peer }
     ensures { Wrote (get_or (of_peer p) i quit) 0 out.old result out.new }
 {
-    if i == 0 {
-        return put_bare(out, Kind::REQUEST_JOIN, 0, 0, p);
+    match i {
+        0 => put_bare(out, Kind::REQUEST_JOIN, 0, 0, p),
+        1 => put_one(out, Message::JOIN, 0, p),
+        2 => put_one(out, Message::NEIGHBOR, Flags::HIGH, p),
+        3 => put_one(out, Message::NEIGHBOR, 0, p),
+        4 => put_bare(out, Kind::MESSAGE, Message::DISCONNECT, Flags::ALIVE, p),
+        5 => put_bare(out, Kind::MESSAGE, Message::DISCONNECT, 0, p),
+        _ => put_bare(out, Kind::PEER_DISCONNECTED, 0, 0, p),
     }
-    if i == 1 {
-        return put_one(out, Message::JOIN, 0, p);
-    }
-    if i == 2 {
-        return put_one(out, Message::NEIGHBOR, Flags::HIGH, p);
-    }
-    if i == 3 {
-        return put_one(out, Message::NEIGHBOR, 0, p);
-    }
-    if i == 4 {
-        return put_bare(out, Kind::MESSAGE, Message::DISCONNECT, Flags::ALIVE, p);
-    }
-    if i == 5 {
-        return put_bare(out, Kind::MESSAGE, Message::DISCONNECT, 0, p);
-    }
-    put_bare(out, Kind::PEER_DISCONNECTED, 0, 0, p)
 }
 
 // The event at place i of the sixteen.
-fn put_event_at(out: &mut [u8], i: usize) -> Written
+fn put_event_at(out: &mut [u8], i: usize) -> Option<usize>
     requires { i < events_in_all }
     ensures { Wrote (event_at i) 0 out.old result out.new }
 {
@@ -131,8 +120,7 @@ fn first_station() -> State
     let mut config = Timing::default_settings();
     config.active_view_capacity = 1;
     config.passive_view_capacity = 1;
-    let m = State::new(1, false, b"", config);
-    m.state
+    State::new(1, false, b"", config).state
 }
 
 // How many bytes the event at place i has, which stand at the front of the lent ones; it has a node at most.
@@ -141,11 +129,7 @@ fn event_bytes(out: &mut [u8], i: usize) -> usize
     requires out_len { length out.old ≡ header_length + node_length }
     ensures { (result ≤ header_length + node_length) × (take result out.new ≡ encode (event_at i)) }
 {
-    let w = put_event_at(out, i);
-    match w {
-        Written::At(n) => n,
-        Written::Full => 0,
-    }
+    put_event_at(out, i).unwrap_or(0)
 }
 
 // The number of a history that goes on with this record.
@@ -154,10 +138,8 @@ fn next_number(number: u64, event: &[u8]) -> u64
     ensures { (result ≡ next_number number event.now) × (result < digest_end) }
 {
     let mut k = number;
-    let mut at: usize = 0;
-    while at < event.len() {
-        k = (k * NUMBER_BASE + (event[at] as u64) + 1) % DIGEST_END;
-        at += 1;
+    for &b in event {
+        k = (k * NUMBER_BASE + b as u64 + 1) % DIGEST_END;
     }
     k
 }
@@ -165,69 +147,56 @@ fn next_number(number: u64, event: &[u8]) -> u64
 // The state after a history, and the history's number.
 #[derive(Clone, Copy)]
 struct Played {
-    pub state: State,
-    pub number: u64,
+    state: State,
+    number: u64,
+    ghost low: { number < digest_end },
 }
 
 // The event at place i, with draws of 0: the number goes on with the bytes that `handle` is given.
-fn play(s: State, number: u64, i: usize) -> Played
-    requires { (number < digest_end) × (i < events_in_all) }
-    ensures state_value { result.state ≡ played (encode (event_at i)) s }
-    ensures number_value { (result.number ≡ next_number number (encode (event_at i))) × (result.number < digest_end) }
+fn play(p: Played, i: usize) -> Played
+    requires { i < events_in_all }
+    ensures state_value { result.state ≡ played (encode (event_at i)) p.state }
+    ensures number_value { result.number ≡ next_number p.number (encode (event_at i)) }
 {
     let mut event = [0u8; record::HEADER + record::NODE];
     let draws = [0u32; hyparview::DRAWS];
     let mut out = [0u8; hyparview::OUTPUT];
     let n = event_bytes(&mut event, i);
-    let longer = next_number(number, &event[..n]);
-    let a = s.handle(&event[..n], &draws, &mut out);
-    let next = a.state;
+    let number = next_number(p.number, &event[..n]);
+    let a = p.state.handle(&event[..n], &draws, &mut out);
     Played {
-        state: next,
-        number: longer,
+        state: a.state,
+        number,
     }
 }
 
-fn one_if(test: bool) -> u32
-    ensures { (result ≡ choose test 1 0) × (result ≤ 1) }
+// One more history, which ended so.
+fn count_end(p: Played, c: Ends) -> Ends
+    requires { CountRoom c 1 }
+    ensures { result ≡ one_more (sizes_in p.state []) p.number c }
 {
-    if test { 1 } else { 0 }
-}
-
-// One more history, which has this number and ended in s.
-fn count_end(s: State, number: u64, c: Ends) -> Ends
-    requires count_room { CountRoom c 1 }
-    requires number_lt_digest_end { number < digest_end }
-    ensures { result ≡ one_more (sizes_in s []) number c }
-{
-    let words = s.words;
-    let active = hyparview::neighbor_count(&words);
-    let passive = hyparview::spare_addresses(&words);
+    let active = hyparview::neighbor_count(&p.state.words);
+    let passive = hyparview::spare_addresses(&p.state.words);
     Ends {
-        neither: c.neither + one_if((active == 0) & (passive == 0)),
-        passive: c.passive + one_if((active == 0) & (passive == 1)),
-        active: c.active + one_if((active == 1) & (passive == 0)),
-        both: c.both + one_if((active == 1) & (passive == 1)),
-        digest: (c.digest * DIGEST_BASE + number) % DIGEST_END,
+        neither: c.neither + u32::from((active == 0) & (passive == 0)),
+        passive: c.passive + u32::from((active == 0) & (passive == 1)),
+        active: c.active + u32::from((active == 1) & (passive == 0)),
+        both: c.both + u32::from((active == 1) & (passive == 1)),
+        digest: (c.digest * DIGEST_BASE + p.number) % DIGEST_END,
     }
 }
 
-// Every history that goes on with `left` more events from s, after one with this number, by the order of events.
-fn extend(s: State, number: u64, left: usize, c: Ends) -> Ends
-    requires count_room { CountRoom c (length (of_length event_records left)) }
-    requires number_lt_digest_end { number < digest_end }
-    ensures { result ≡ counted_on s number c (of_length event_records left) }
+// Every history that goes on with `left` more events after this one, by the order of events.
+fn extend(p: Played, left: usize, c: Ends) -> Ends
+    requires { CountRoom c (length (of_length event_records left)) }
+    ensures { result ≡ counted_on p.state p.number c (of_length event_records left) }
 {
     if left == 0 {
-        return count_end(s, number, c);
+        return count_end(p, c);
     }
     let mut sum = c;
-    let mut i: usize = 0;
-    while i < EVENTS_IN_ALL {
-        let p = play(s, number, i);
-        let next = p.state;
-        sum = extend(next, p.number, left - 1, sum);
-        i += 1;
+    for i in 0..EVENTS_IN_ALL {
+        sum = extend(play(p, i), left - 1, sum);
     }
     sum
 }
@@ -236,18 +205,14 @@ fn extend(s: State, number: u64, left: usize, c: Ends) -> Ends
 pub fn count_ends() -> Ends
     ensures { result ≡ all_ends }
 {
-    let s = first_station();
-    let mut sum = Ends {
-        neither: 0,
-        passive: 0,
-        active: 0,
-        both: 0,
-        digest: 0,
-    };
-    let mut n: usize = 0;
-    while n < HISTORY_LENGTHS {
-        sum = extend(s, 0, n, sum);
-        n += 1;
+    let first = first_station();
+    let mut sum = Ends::default();
+    for n in 0..HISTORY_LENGTHS {
+        let none = Played {
+            state: first,
+            number: 0,
+        };
+        sum = extend(none, n, sum);
     }
     sum
 }

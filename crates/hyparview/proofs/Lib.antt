@@ -1,4 +1,3 @@
-pub mod Copies
 pub mod Laws
 pub mod Opening
 pub mod Asked

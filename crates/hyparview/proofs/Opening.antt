@@ -2,28 +2,30 @@
 -- Assumes nothing.
 use Prim.Native.Nat.{ℕ, ◌≤◌, ◌<◌}
 use mathlib.Core.Path.{◌≡◌, refl, sym, ap, ◌∙◌, subst}
-use mathlib.Core.Bool.{Bool, true, false, not, ◌&&◌}
+use mathlib.Core.Bool.{true, false, ◌&&◌}
 use mathlib.Core.List.{List}
 use native.Mathlib.Omega.{arith}
 use lib.ListN.{length, get_or}
 use lib.Seq.{length-take-le}
 use lib.Dec.{eqb, ltb}
-use borrow.Author.Tests.{ne_eqb, ltb-false}
+use borrow.Author.Tests.{ne_eqb, eqb-true, ltb-false}
 use Rattle.base_lists.proofs.Choice.{by_choice, choose_yes, choose_no, split, and_left, and_right, and_false, clash}
 use Rattle.base_columns.specs.Columns.{words_end}
 use Rattle.record.specs.Kinds.{is_event_kind}
 use Rattle.record.specs.declared.Header.{Header}
-use Rattle.record.specs.declared.Event.{Event}
-use Rattle.record.specs.declared.Event.TheVariants.{Refused, Record}
+use Rattle.record.specs.Refusals.{refusal_code}
+use Rattle.record.specs.declared.Refusal.{Refusal}
+use Rattle.std.specs.Prelude.{Result, Ok, Err}
 use Rattle.record.specs.Read as R
-use Rattle.record.specs.Answers.{EventIs, answer_to, event_answer, event_in}
+use Rattle.record.specs.Answers.{EventIs, coded, answer_to, event_answer, event_in}
 use Rattle.spec_hyparview.specs.Budgets.{arriving}
 use Rattle.spec_hyparview.specs.Station.{peers_end}
 use Rattle.spec_hyparview.specs.Run.{Run}
 use Rattle.spec_hyparview.specs.Rules.{station_ok}
 use Rattle.spec_hyparview.specs.Handle as P
 use Rattle.spec_hyparview.specs.Handle.{start, steps, handle_reading}
-use Rattle.spec_hyparview.proofs.Invariant.{calm, Ok}
+use Rattle.spec_hyparview.proofs.Invariant as I
+use Rattle.spec_hyparview.proofs.Invariant.{calm}
 use Rattle.spec_hyparview.proofs.Keeping.{ease}
 use Rattle.spec_hyparview.proofs.Reading.{readable}
 use Rattle.spec_hyparview.proofs.Bounds.{begun, ready}
@@ -31,7 +33,7 @@ use Rattle.work.specs.declared.Work.{Work}
 use Rattle.hyparview_state.specs.Layout as layout
 use Rattle.hyparview_state.specs.Unpack.{unpack, long}
 use Rattle.hyparview_state.specs.Work.{Held, work_of, run, run_of, Fine, Does}
-use Rattle.hyparview_rules.specs.Ok.{packed_ok, state_ok}
+use Rattle.hyparview_rules.specs.Ok.{packed_ok, state_ok, Keeps}
 use Rattle.hyparview_rules.proofs.Back.{ok_back, packed_back}
 use Rattle.hyparview_rules.proofs.Packed.{ok_state}
 use Rattle.hyparview.specs.Taken.{ReadAs}
@@ -64,7 +66,7 @@ opens xs b h ds out ok v narrow =
             messages = 0;
             bytes = 0;
             draws = 0;
-            ok = subst (Ok (begun (unpack xs) (ok_state xs ok).rules ds (length out) (R.rec_of b) w) calm 0 arriving 40) (sym (start_is xs ds out ok)) (ease (omega arith) (omega arith) (omega arith) k);
+            ok = subst (I.Ok (begun (unpack xs) (ok_state xs ok).rules ds (length out) (R.rec_of b) w) calm 0 arriving 40) (sym (start_is xs ds out ok)) (ease (omega arith) (omega arith) (omega arith) k);
           };
     }
 
@@ -80,11 +82,11 @@ module _ (xs : List ℕ) (ok : packed_ok xs ≡ true) where
   unfolding refused_words packed_answer P.refusal
   refusal_is c room = rw (ok_back xs ok)
 
-  ended_is : (a : Work) (ys ds o : List ℕ) → Fine (work_of a ys) ds o → ((i : ℕ) → get_or ys i 0 < words_end) → ended xs a ys o ≡ packed_answer (P.finish (unpack xs) (run (work_of a ys) ds o))
+  ended_is : (a : Work) (ys ds o : List ℕ) → Fine (work_of a ys) ds o → (a.code ≡ 0 → (i : ℕ) → get_or ys i 0 < words_end) → ended xs a ys o ≡ packed_answer (P.finish (unpack xs) (run (work_of a ys) ds o))
   unfolding ended P.finish run_of
   ended_is a ys ds o v small =
       split (eqb a.code 0)
-      (λ z. choose_yes _ _ _ z ∙ (accepted_is (work_of a ys) ds o v small ∙ ap packed_answer (sym (choose_yes _ _ _ z))))
+      (λ z. choose_yes _ _ _ z ∙ (accepted_is (work_of a ys) ds o v (small (eqb-true _ _ z)) ∙ ap packed_answer (sym (choose_yes _ _ _ z))))
       (λ z. choose_no _ _ _ z ∙ (refusal_is a.code (length o) ∙ ap packed_answer (sym (choose_no _ _ _ z))))
 
 pub packed_of : (xs : List ℕ) → state_ok xs ≡ true → packed_ok xs ≡ true
@@ -102,13 +104,14 @@ handled_ok : (xs b ds : List ℕ) (room : ℕ) → state_ok xs ≡ true → hand
 unfolding handled P.handle
 handled_ok xs b ds room ok = choose_yes _ _ _ (packed_of xs ok) ∙ ap packed_answer (choose_yes _ _ _ (rules_of xs ok))
 
-pub event_handled : (xs b : List ℕ) (h : Header) (a : Work) (ys old ds out o₁ : List ℕ) (r : Outcome) → state_ok xs ≡ true → ReadAs b h → ((i : ℕ) → get_or ys i 0 < words_end) → old ≡ xs → r ≡ ended old a ys o₁
-    → Does (work_of a ys) ds o₁ (steps (R.rec_of b) (run (at_start xs) ds out)) → r ≡ handled xs b ds (length out)
+pub event_handled : (xs b : List ℕ) (h : Header) (a : Work) (ys zs ds out o₁ : List ℕ) (r : Outcome) → Keeps xs zs → ReadAs b h → (a.code ≡ 0 → (i : ℕ) → get_or ys i 0 < words_end) → r ≡ ended xs a ys o₁
+    → Does (work_of a ys) ds o₁ (steps (R.rec_of b) (run (at_start zs) ds out)) → r ≡ handled xs b ds (length out)
 unfolding handle_reading
-event_handled xs b h a ys old ds out o₁ r ok v small same e d =
-    e ∙ (ap (λ (l : List ℕ). ended l a ys o₁) same ∙ (ended_is xs (packed_of xs ok) a ys ds o₁ d.fine small
-    ∙ (ap (λ (g : Run). packed_answer (P.finish (unpack xs) g)) (d.same ∙ ap (steps (R.rec_of b)) (start_is xs ds out ok))
-    ∙ (ap (λ (x : R.Reading). packed_answer (handle_reading x (unpack xs) ds (length out))) v.reads ∙ sym (handled_ok xs b ds (length out) ok)))))
+event_handled xs b h a ys zs ds out o₁ r k v small e d =
+    let ok = k.ok in
+    e ∙ (ended_is xs (packed_of xs ok) a ys ds o₁ d.fine small
+    ∙ (ap (λ (g : Run). packed_answer (P.finish (unpack xs) g)) (d.same ∙ ap (λ (l : List ℕ). steps (R.rec_of b) (run (at_start l) ds out)) k.same ∙ ap (steps (R.rec_of b)) (start_is xs ds out ok))
+    ∙ (ap (λ (x : R.Reading). packed_answer (handle_reading x (unpack xs) ds (length out))) v.reads ∙ sym (handled_ok xs b ds (length out) ok))))
 
 pub handled_two : (xs b ds : List ℕ) (room : ℕ) → state_ok xs ≡ false → refused_words 2 xs room ≡ handled xs b ds room
 unfolding handled P.handle state_ok
@@ -117,40 +120,36 @@ handled_two xs b ds room broken =
     (λ p. refusal_is xs p 2 room ∙ (ap packed_answer (sym (choose_no _ _ _ (and_false (packed_ok xs) (station_ok (unpack xs)) broken (clash (packed_ok xs) p) (λ z. z)))) ∙ sym (choose_yes _ _ _ p)))
     (λ p. sym (choose_no _ _ _ p))
 
-is_no : (x : Bool) → not x ≡ true → x ≡ false
-is_no true z = sym z
-is_no false z = refl
+module _ (xs b ds : List ℕ) (room : ℕ) (r : Outcome) where
+  pub handled_broken : (k : ℕ) → k ≡ 2 → state_ok xs ≡ false → r ≡ refused_words k xs room → r ≡ handled xs b ds room
+  handled_broken k z broken e = e ∙ ap (λ (n : ℕ). refused_words n xs room) z ∙ handled_two xs b ds room broken
 
-is_yes : (x : Bool) → not x ≡ false → x ≡ true
-is_yes true z = refl
-is_yes false z = sym z
+  pub handled_unread : (x : Result Header Refusal) (c : Refusal) (k : ℕ) → state_ok xs ≡ true → EventIs b x → x ≡ Err c → k ≡ refusal_code c → r ≡ refused_words k xs room → r ≡ handled xs b ds room
+  unfolding event_in handle_reading
+  handled_unread x c k ok is q z d =
+      let reads : R.refused (refusal_code c) ≡ R.read_event b = ap (event_in b) (sym q) ∙ is.reads in
+      d ∙ (ap (λ (n : ℕ). refused_words n xs room) z ∙ (refusal_is xs (packed_of xs ok) (refusal_code c) room
+      ∙ (ap (λ (y : R.Reading). packed_answer (handle_reading y (unpack xs) ds room)) reads ∙ sym (handled_ok xs b ds room ok))))
 
 -- words that keep the rules are as many as a state has
-long_ok : (xs : List ℕ) → state_ok xs ≡ true → length xs ≡ layout.words
+pub long_ok : (xs : List ℕ) → state_ok xs ≡ true → length xs ≡ layout.words
 long_ok xs ok = long (ok_state xs ok).packed
 
-module _ (xs b ds : List ℕ) (room : ℕ) (r : Outcome) (t : Bool) (e : t ≡ state_ok xs) where
-  pub handled_broken : not t ≡ true → r ≡ refused_words 2 xs room → r ≡ handled xs b ds room
-  handled_broken h k = k ∙ handled_two xs b ds room (sym e ∙ is_no t h)
-
-  pub handled_unread : (x : Event) (c : ℕ) → not t ≡ false → EventIs b x → x ≡ Refused c → r ≡ refused_words c xs room → r ≡ handled xs b ds room
-  unfolding event_in handle_reading
-  handled_unread x c h k q d =
-      let ok = sym e ∙ is_yes t h in
-      let reads : R.refused c ≡ R.read_event b = ap (event_in b) (sym q) ∙ k.reads in
-      d ∙ (refusal_is xs (packed_of xs ok) c room ∙ (ap (λ (y : R.Reading). packed_answer (handle_reading y (unpack xs) ds room)) reads ∙ sym (handled_ok xs b ds room ok)))
+-- the array of words that keep the rules keeps them
+pub kept_ok : (xs ys : List ℕ) → Keeps xs ys → state_ok ys ≡ true
+kept_ok xs ys k = ap state_ok k.same ∙ k.ok
 
 -- ---- the header that was read
 
-header_in : Header → Event → Header
-header_in w (Refused c) = w
-header_in w (Record h) = h
+header_in : Header → Result Header ℕ → Header
+header_in w (Err c) = w
+header_in w (Ok h) = h
 
-is_record : Event → ℕ
-is_record (Refused c) = 0
-is_record (Record h) = 1
+is_record : Result Header ℕ → ℕ
+is_record (Err c) = 0
+is_record (Ok h) = 1
 
-read_of : (b : List ℕ) (h : Header) → R.event (R.rec_of b) ≡ R.read_event b → event_answer b ≡ Record h → ReadAs b h
+read_of : (b : List ℕ) (h : Header) → R.event (R.rec_of b) ≡ R.read_event b → event_answer b ≡ Ok h → ReadAs b h
 unfolding event_answer answer_to R.read_event R.is_event R.header_of_by header_in is_record
 read_of b h reads =
     by_choice X _ (λ z q. absurd (no_refusal 3 q))
@@ -165,13 +164,11 @@ read_of b h reads =
     (λ f q. absurd (no_refusal 3 q))))
   where
     X : R.Reading → Type 0
-    X x = answer_to b x ≡ Record h → ReadAs b h
+    X x = answer_to b x ≡ Ok h → ReadAs b h
 
-    no_refusal : (c : ℕ) → Refused c ≡ Record h → ⊥
+    no_refusal : (c : ℕ) → ◌≡◌ {A = Result Header ℕ} (Err c) (Ok h) → ⊥
     no_refusal c q = let z : ◌≡◌ {A = ℕ} 0 1 = ap is_record q in omega (arith, z)
 
-pub recorded : (xs b : List ℕ) (x : Event) (h : Header) (t : Bool) → t ≡ state_ok xs → not t ≡ false → EventIs b x → x ≡ Record h → (length xs ≡ layout.words) × ((state_ok xs ≡ true) × ReadAs b h)
-unfolding event_in
-recorded xs b x h t e n k q =
-    let ok = sym e ∙ is_yes t n in
-    (long_ok xs ok, (ok, read_of b h (ap (event_in b) (sym q) ∙ k.reads) (sym k.is ∙ q)))
+pub recorded : (b : List ℕ) (x : Result Header Refusal) (h : Header) → EventIs b x → x ≡ Ok h → ReadAs b h
+unfolding event_in coded
+recorded b x h k q = read_of b h (ap (event_in b) (sym q) ∙ k.reads) (sym k.is ∙ ap coded q)

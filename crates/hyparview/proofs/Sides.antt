@@ -68,8 +68,8 @@ module _ (xs b ds : List ℕ) (room : ℕ) where
       refusal_is xs p 16 room ∙ (ap packed_answer (sym (choose_yes (station_ok (unpack xs) && too_many b) (P.refusal 16 (unpack xs) room) _ both)) ∙ sym (choose_yes _ _ _ p))
 
 module _ (xs b ds : List ℕ) (room : ℕ) (r : Outcome) (t : Bool) (e : t ≡ (too_many b && state_ok xs)) where
-  pub sixteen : t ≡ true → r ≡ refused_words 16 xs room → r ≡ handled_from radio xs b ds room
-  sixteen h k = k ∙ barred xs b ds room (sym e ∙ h)
+  pub sixteen : (c : ℕ) → c ≡ 16 → t ≡ true → r ≡ refused_words c xs room → r ≡ handled_from radio xs b ds room
+  sixteen c z h k = k ∙ ap (λ (n : ℕ). refused_words n xs room) z ∙ barred xs b ds room (sym e ∙ h)
 
   pub few_draws : t ≡ false → length ds < radio_draws → r ≡ handled xs b ds room → r ≡ handled_from radio xs b ds room
   few_draws h l k = k ∙ (ap (λ (d : List ℕ). handled xs b d room) (sym (take_all radio_draws ds (omega (arith, l)))) ∙ as_wired xs b ds room (open_to xs b (sym e ∙ h)))
@@ -90,6 +90,11 @@ module _ (xs b ds : List ℕ) (room : ℕ) (r : Outcome) (t : Bool) where
   pub from_wired : t ≡ false → r ≡ handled xs b ds room → r ≡ handled_from (side_of t) xs b ds room
   unfolding side_of handled handled_from handle_from
   from_wired h k = rw h k
+
+-- a wired call is `handle`
+pub wired_is : (xs b ds : List ℕ) (room : ℕ) → handled_from (side_of false) xs b ds room ≡ handled xs b ds room
+unfolding side_of handled handled_from handle_from
+wired_is xs b ds room = refl
 
 -- words that break a rule are answered 2 from either side
 pub from_two : (side : Side) (xs b ds : List ℕ) (room : ℕ) → state_ok xs ≡ false → refused_words 2 xs room ≡ handled_from side xs b ds room

@@ -7,14 +7,16 @@ ghost use Rattle.spec_hyparview.specs.Sides.{radio as radio_side, side_of, too_m
 ghost use Rattle.hyparview_rules.specs.Ok.{state_ok};
 ghost use Rattle.hyparview.specs.Made.{Starts, StartsState};
 ghost use Rattle.hyparview.specs.Handled.{cleared, Refuses, Handles, HandlesState, HandlesFrom, HandlesStateFrom};
-ghost use Rattle.base_peer.specs.Held.{data_in, ValidData};
-ghost use Rattle.hyparview_rules.specs.Pack.{front};
+ghost use Rattle.base_peer.specs.Data.{bytes_of};
+ghost use Rattle.base_peer.specs.Held.{data_in};
+ghost use Rattle.base_columns.specs.Columns.{low_word, high_word};
+ghost use Rattle.hyparview_rules.specs.Pack.{present_word, front};
 ghost use Rattle.hyparview.specs.Queries.{wants_connection_in, is_neighbor_in, neighbors_in, spare_addresses_in};
 
-use base_peer::{MaybeData, PeerData, PeerId};
+use base_peer::{PeerData, PeerId};
 use base_timing::{Config, Timing};
-use hyparview_state::Layout;
-use record::{Event, Refusal};
+use hyparview_state::{Layout, Words};
+use record::Refusal;
 use work::Work;
 
 // The bytes of output that suffice for every event (document 01).
@@ -28,20 +30,34 @@ pub const RADIO_NODES: u8 = 8;
 
 pub const RADIO_DRAWS: usize = 64;
 
+// Own data as words: whether there is any, how many bytes, and the bytes in two words; zeroes where there is none.
+fn own_words(own: Option<PeerData>) -> (u64, u64, u64, u64)
+    ensures present { result.0 ≡ present_word (data_in own) }
+    ensures len { result.1 ≡ length (bytes_of (data_in own)) }
+    ensures low { result.2 ≡ low_word (bytes_of (data_in own)) }
+    ensures high { result.3 ≡ high_word (bytes_of (data_in own)) }
+{
+    match own {
+        Some(d) => {
+            let low = base_columns::word_at(d.bytes, 0);
+            let high = base_columns::word_at(d.bytes, base_columns::WORD);
+            (1, d.len as u64, low, high)
+        }
+        None => (0, 0, 0, 0),
+    }
+}
+
 // The numbers of a station that has met no event, in the order of `Layout`, where the active view follows them.
-fn first_numbers(me: PeerId, own: PeerData, config: Config) -> [u64; Layout::NUMBERS_END]
-    requires { ValidData own }
+fn first_numbers(me: PeerId, own: Option<PeerData>, config: Config) -> [u64; Layout::NUMBERS_END]
     ensures { result ≡ front (new_station me (data_in own) config) }
 {
-    let bytes = own.bytes;
-    let low = base_columns::word_at(bytes, 0);
-    let high = base_columns::word_at(bytes, base_columns::WORD);
+    let (present, len, low, high) = own_words(own);
     // The delay before the first shuffle is no longer than the interval.
     let interval = base_timing::shorter(Timing::INITIAL_SHUFFLE_INTERVAL, config.shuffle_interval);
     [
         me,
-        own.present as u64,
-        own.len as u64,
+        present,
+        len,
         config.active_view_capacity as u64,
         config.passive_view_capacity as u64,
         config.active_random_walk_length as u64,
@@ -67,29 +83,26 @@ fn first_numbers(me: PeerId, own: PeerData, config: Config) -> [u64; Layout::NUM
 }
 
 // State::new: self, own data lent as bytes or absent, and the settings. Code 1, and zeroes, where a setting is out of range or own data is
-// over 16 bytes; code 2, and nothing touched, where the words are too few or too many.
+// over 16 bytes; code 2, and nothing touched, where the words are too few or too many. Own data is a flag and bytes, as C lends it and as
+// `Starts` says of it.
 pub fn new(st: &mut [u64], me: PeerId, present: bool, own: &[u8], config: Config) -> u32
     ensures { Starts result st me present own config }
 {
     if st.len() != Layout::LENGTH {
-        return Refusal::STATE;
+        return Refusal::State.into();
     }
-    base_util::clear_from(st, 0);
-    let none = PeerData::absent();
-    let mut d = MaybeData {
-        ok: true,
-        data: none,
+    st.fill(0);
+    let data = if present {
+        PeerData::from_slice(own)
+    } else {
+        None
     };
-    if present {
-        d = PeerData::from_slice(own);
-    }
-    if config.in_range() & d.ok {
-        let data = d.data;
+    if config.in_range() & (data.is_some() | !present) {
         let numbers = first_numbers(me, data, config);
-        copy_words(&numbers, &mut st[..Layout::NUMBERS_END]);
+        st[..Layout::NUMBERS_END].copy_from_slice(&numbers);
         return 0;
     }
-    Refusal::SETTINGS
+    Refusal::Settings.into()
 }
 
 // ---- what a supervisor asks
@@ -99,57 +112,51 @@ pub fn new(st: &mut [u64], me: PeerId, present: bool, own: &[u8], config: Config
 pub fn wants_connection(st: &[u64], p: PeerId) -> bool
     ensures { result ≡ wants_connection_in p st.now }
 {
-    if hyparview_rules::is_ok(st) {
-        return hyparview_state::in_active(st, p)
-            | (hyparview_state::is_requested(st, p)
-                | base_columns::contains_number(
-                    &st[Layout::JOINS..Layout::JOINS_END],
-                    Layout::JOINS_PLACES,
-                    p,
-                ));
-    }
-    false
+    let Some(words) = hyparview_rules::checked(st) else {
+        return false;
+    };
+    hyparview_state::in_active(words, p)
+        | hyparview_state::is_requested(words, p)
+        | base_columns::contains_number(
+            &words[Layout::JOINS..Layout::JOINS_END],
+            Layout::JOINS_PLACES,
+            p,
+        )
 }
 
 // No peer is one by words that break a station rule, as `handle` refuses them.
 pub fn is_neighbor(st: &[u64], p: PeerId) -> bool
     ensures { result ≡ is_neighbor_in p st.now }
 {
-    if hyparview_rules::is_ok(st) {
-        return hyparview_state::in_active(st, p);
-    }
-    false
+    let Some(words) = hyparview_rules::checked(st) else {
+        return false;
+    };
+    hyparview_state::in_active(words, p)
 }
 
 // How many neighbors there are.
 pub fn neighbor_count(st: &[u64]) -> usize
     ensures { result ≡ length (neighbors_in st.now) }
 {
-    if hyparview_rules::is_ok(st) {
-        return base_util::count(
-            &st[Layout::ACTIVE..Layout::ACTIVE_END],
-            Layout::ACTIVE_PLACES,
-        );
-    }
-    0
+    let Some(words) = hyparview_rules::checked(st) else {
+        return 0;
+    };
+    base_util::count(
+        &words[Layout::ACTIVE..Layout::ACTIVE_END],
+        Layout::ACTIVE_PLACES,
+    )
 }
 
-// The neighbor at place i, in order, and 0 past the last.
+// The neighbor at place i, in order, and 0 past the last, since C has no Option.
 pub fn neighbor(st: &[u64], i: usize) -> PeerId
     ensures { result ≡ get_or (neighbors_in st.now) i 0 }
 {
-    if hyparview_rules::is_ok(st) {
-        let n = base_util::count(
-            &st[Layout::ACTIVE..Layout::ACTIVE_END],
-            Layout::ACTIVE_PLACES,
-        );
-        if i < n {
-            return base_util::get_index(
-                &st[Layout::ACTIVE..Layout::ACTIVE_END],
-                Layout::ACTIVE_PLACES,
-                i,
-            );
-        }
+    let Some(words) = hyparview_rules::checked(st) else {
+        return 0;
+    };
+    let active = &words[Layout::ACTIVE..Layout::ACTIVE_END];
+    if i < base_util::count(active, Layout::ACTIVE_PLACES) {
+        return base_util::get_index(active, Layout::ACTIVE_PLACES, i);
     }
     0
 }
@@ -158,13 +165,13 @@ pub fn neighbor(st: &[u64], i: usize) -> PeerId
 pub fn spare_addresses(st: &[u64]) -> usize
     ensures { result ≡ spare_addresses_in st.now }
 {
-    if hyparview_rules::is_ok(st) {
-        return base_util::count(
-            &st[Layout::PASSIVE..Layout::PASSIVE_END],
-            Layout::PASSIVE_PLACES,
-        );
-    }
-    0
+    let Some(words) = hyparview_rules::checked(st) else {
+        return 0;
+    };
+    base_util::count(
+        &words[Layout::PASSIVE..Layout::PASSIVE_END],
+        Layout::PASSIVE_PLACES,
+    )
 }
 
 // ---- one event
@@ -177,68 +184,34 @@ pub struct Done {
     pub draws: usize,
 }
 
-// The places from `from` on become zero.
-fn clear_output(out: &mut [u8], from: usize)
-    requires { from ≤ length out.old }
-    ensures { out.new ≡ cleared from out.old }
-{
-    let mut i = from;
-    while i < out.len() {
-        out[i] = 0;
-        i += 1;
-    }
-}
-
-// The words of a into b.
-pub fn copy_words(a: &[u64], b: &mut [u64])
-    requires { length a.now ≡ length b.old }
-    ensures { b.new ≡ a.now }
-{
-    let mut i: usize = 0;
-    while i < b.len() {
-        b[i] = a[i];
-        i += 1;
-    }
-}
-
 // Zeroes only, and no draw; the words stay as they are.
 fn refuse(st: &[u64], out: &mut [u8], code: u32) -> Done
     ensures { Refuses code result st out }
 {
-    clear_output(out, 0);
-    Done {
-        code: code,
-        draws: 0,
-    }
+    out.fill(0);
+    Done { code, draws: 0 }
 }
 
 // One event: the whole result, or one numbered refusal that leaves every word as it was.
 pub fn handle(st: &mut [u64], b: &[u8], draws: &[u32], out: &mut [u8]) -> Done
     ensures { Handles result st b draws out }
 {
-    if !hyparview_rules::is_ok(st) {
-        return refuse(st, out, Refusal::STATE);
-    }
-    let e = record::read_event(b);
-    match e {
-        Event::Refused(c) => refuse(st, out, c),
-        Event::Record(h) => {
-            // The words are kept aside for a refusal, which leaves them as they were.
-            let mut old = [0u64; Layout::LENGTH];
-            copy_words(st, &mut old);
-            let w = Work {
-                drawn: 0,
-                written: 0,
-                code: 0,
-            };
-            let a = step_dispatch::steps(w, st, draws, out, b, h);
+    let Some(kept) = hyparview_rules::checked(st) else {
+        return refuse(st, out, Refusal::State.into());
+    };
+    match record::read_event(b) {
+        Err(r) => refuse(st, out, r.into()),
+        Ok(h) => {
+            // The steps are done on a copy, so that a refusal leaves the words as they were.
+            let mut words = *kept;
+            let a = step_dispatch::steps(Work::default(), &mut words, draws, out, b, h);
             let code = a.code;
             if code != 0 {
-                copy_words(&old, st);
                 return refuse(st, out, code);
             }
+            st.copy_from_slice(&words);
             let at = a.written;
-            clear_output(out, at);
+            out[at..].fill(0);
             Done {
                 code: 0,
                 draws: a.drawn,
@@ -273,7 +246,7 @@ fn handle_radio(st: &mut [u64], b: &[u8], draws: &[u32], out: &mut [u8]) -> Done
     ensures { HandlesFrom radio_side result st b draws out }
 {
     if is_barred(st, b) {
-        return refuse(st, out, Refusal::RADIO_NODES);
+        return refuse(st, out, Refusal::RadioNodes.into());
     }
     if draws.len() < RADIO_DRAWS {
         return handle(st, b, draws, out);
@@ -294,10 +267,10 @@ pub fn handle_from(st: &mut [u64], radio: bool, b: &[u8], draws: &[u32], out: &m
 // The state by value.
 #[derive(Clone, Copy)]
 pub struct State {
-    pub words: [u64; Layout::LENGTH],
+    pub words: Words,
 }
 
-// What a call by value hands back: its code, the state, and how many draws are used.
+// What a call by value hands back: its code, the state, and how many draws are used. No Result, since a refusal hands the state back too.
 #[derive(Clone, Copy)]
 pub struct HandledState {
     pub code: u32,
@@ -305,7 +278,7 @@ pub struct HandledState {
     pub draws: usize,
 }
 
-// What `new` by value hands back: code 0 and the state, or code 1 and a state of zeroes.
+// What `new` by value hands back: code 0 and the state, or code 1 and a state of zeroes, which a Result would not hold.
 #[derive(Clone, Copy)]
 pub struct MadeState {
     pub code: u32,
@@ -319,10 +292,9 @@ impl State {
     {
         let mut words = [0u64; Layout::LENGTH];
         let code = new(&mut words, me, present, own, config);
-        let s = State { words: words };
         MadeState {
-            code: code,
-            state: s,
+            code,
+            state: State { words },
         }
     }
 
@@ -330,14 +302,7 @@ impl State {
     pub fn handle(self, b: &[u8], draws: &[u32], out: &mut [u8]) -> HandledState
         ensures { HandlesState result self b draws out }
     {
-        let mut words = self.words;
-        let d = handle(&mut words, b, draws, out);
-        let s = State { words: words };
-        HandledState {
-            code: d.code,
-            state: s,
-            draws: d.draws,
-        }
+        self.handle_from(false, b, draws, out)
     }
 
     // The same of a call that names its side.
@@ -346,10 +311,9 @@ impl State {
     {
         let mut words = self.words;
         let d = handle_from(&mut words, radio, b, draws, out);
-        let s = State { words: words };
         HandledState {
             code: d.code,
-            state: s,
+            state: State { words },
             draws: d.draws,
         }
     }

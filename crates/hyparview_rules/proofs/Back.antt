@@ -19,10 +19,9 @@ use Rattle.base_util.proofs.Sets.{set_words}
 use Rattle.base_columns.specs.Columns.{words_end, word_bytes, low_word, high_word}
 use Rattle.base_columns.proofs.Words.{word_low, word_high}
 use Rattle.base_columns.proofs.Sections.{Small, numbers_words, data_words}
-use Rattle.base_peer.specs.declared.PeerData.{PeerData}
 use Rattle.base_peer.specs.Data.{bytes_of}
-use Rattle.base_peer.specs.Held.{data_in, ValidData}
-use Rattle.base_peer.proofs.Data.{bytes_in, length_bytes}
+use Rattle.base_peer.specs.Held.{DataFields, fields_in, ValidData}
+use Rattle.base_peer.proofs.Data.{bytes_in, length_field}
 use Rattle.hyparview_state.specs.Layout as layout
 use Rattle.hyparview_state.specs.Unpack.{own_at, settings_at, limit_at, limit_formed, refill_in, station_of, unpack, PackedState}
 use Rattle.hyparview_state.proofs.Memory.{two_limit}
@@ -36,23 +35,23 @@ use Rattle.hyparview_rules.proofs.Parts.{rejoined_active}
 -- ---- own data
 
 module _ (p l w x : ℕ) (h : p ≤ 1) (v : ValidData (record { present = eqb p 1; len = l; bytes = word_bytes w x })) (f : w < words_end) (g : x < words_end) where
-  abbrev pub own : PeerData
+  abbrev pub own : DataFields
   own = record { present = eqb p 1; len = l; bytes = word_bytes w x }
 
-  pub present_back : present_word (data_in own) ≡ p
-  unfolding present_word data_in choose
+  pub present_back : present_word (fields_in own) ≡ p
+  unfolding present_word fields_in choose
   present_back =
       split (eqb p 1) (λ t. rw t (sym (eqb-true p 1 t)))
       (λ t. let n : p ≡ 1 → ⊥ = eqb-false p 1 t in rw t (let z : 0 ≡ p = omega arith in z))
 
-  pub len_back : length (bytes_of (data_in own)) ≡ l
-  len_back = ap length (bytes_in own v) ∙ length_bytes own v
+  pub len_back : length (bytes_of (fields_in own)) ≡ l
+  len_back = ap length (bytes_in own v) ∙ length_field own v
 
-  pub low_back : low_word (bytes_of (data_in own)) ≡ w
+  pub low_back : low_word (bytes_of (fields_in own)) ≡ w
   unfolding low_word
   low_back = ap (λ (b : List ℕ). read_le 8 (pad 0 16 b) 0) (bytes_in own v) ∙ ap (λ (b : List ℕ). read_le 8 b 0) (sym v.packed) ∙ word_low w x f g
 
-  pub high_back : high_word (bytes_of (data_in own)) ≡ x
+  pub high_back : high_word (bytes_of (fields_in own)) ≡ x
   unfolding high_word
   high_back = ap (λ (b : List ℕ). read_le 8 (pad 0 16 b) 8) (bytes_in own v) ∙ ap (λ (b : List ℕ). read_le 8 b 8) (sym v.packed) ∙ word_high w x f g
 

@@ -22,9 +22,8 @@ use Rattle.base_lists.proofs.Members.{mem_without_other}
 use Rattle.base_util.specs.Section.{items_at, section}
 use Rattle.base_util.proofs.Sets.{section_holds}
 use Rattle.base_columns.specs.Columns.{words_end, word_bytes, numbers_at, numbers_section, low_word, high_word, data_map_at, data_section}
-use Rattle.base_peer.specs.declared.PeerData.{PeerData}
 use Rattle.base_peer.specs.Data.{Data, bytes_of}
-use Rattle.base_peer.specs.Held.{data_in, ValidData}
+use Rattle.base_peer.specs.Held.{DataFields, fields_in, ValidData}
 use Rattle.base_peer.specs.Maps.{numbers_under}
 use Rattle.base_peer.proofs.Data.{holds_some}
 use Rattle.base_timing.specs.Timing.{within, in_range, max_bootstrap_peers, max_requests_per_refill}
@@ -127,7 +126,7 @@ kept_fits g k =
 
 -- ---- own data, the limit and the sections come out again
 
-abbrev own_packed : Data → PeerData
+abbrev own_packed : Data → DataFields
 own_packed d = record { present = eqb (present_word d) 1; len = length (bytes_of d); bytes = word_bytes (low_word (bytes_of d)) (high_word (bytes_of d)) }
 
 short_bytes : (d : Data) → short_data d ≡ true → length (bytes_of d) ≤ max_data_length
@@ -139,8 +138,8 @@ module _ (d : Data) (e : short_data d ≡ true) (u : all_under bytes_end (bytes_
   own_words : own_packed d ≡ record { present = eqb (present_word d) 1; len = length (bytes_of d); bytes = pad 0 16 (bytes_of d) }
   own_words = λ i. record { present = eqb (present_word d) 1; len = length (bytes_of d); bytes = words_back (bytes_of d) (short_bytes d e) u i }
 
-own_padded : (d : Data) → short_data d ≡ true → data_in (record { present = eqb (present_word d) 1; len = length (bytes_of d); bytes = pad 0 16 (bytes_of d) }) ≡ d
-unfolding data_in present_word bytes_of short_data choose
+own_padded : (d : Data) → short_data d ≡ true → fields_in (record { present = eqb (present_word d) 1; len = length (bytes_of d); bytes = pad 0 16 (bytes_of d) }) ≡ d
+unfolding fields_in present_word bytes_of short_data choose
 own_padded none e = refl
 own_padded (some b) e = ap some (take_pad 0 16 b (leb-true (length b) 16 e))
 
@@ -219,7 +218,7 @@ pub unpack_pack : (g : Station) → Fits g → unpack (pack g) ≡ g
 unfolding unpack station_of pack front own_at settings_at limit_at
 unpack_pack g v = λ i. record {
   me = g.me;
-  own_data = (ap data_in (own_words g.own_data v.own_data v.own_bytes) ∙ own_padded g.own_data v.own_data) i;
+  own_data = (ap fields_in (own_words g.own_data v.own_data v.own_bytes) ∙ own_padded g.own_data v.own_data) i;
   active = active_out g v i;
   passive = passive_out g v i;
   config = g.config;

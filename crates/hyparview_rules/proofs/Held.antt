@@ -21,10 +21,9 @@ use Rattle.base_util.proofs.Sets.{lent}
 use Rattle.base_columns.specs.Columns.{numbers_at, data_map_at, entries_at, count_of, ValidDataWords}
 use Rattle.base_columns.proofs.Data.{data_entries}
 use Rattle.base_timing.specs.Timing.{within, in_range, most_active, most_passive, longest_walk, most_shuffle_active, most_shuffle_passive, longest_time, max_requests_per_refill}
-use Rattle.base_peer.specs.declared.PeerData.{PeerData}
-use Rattle.base_peer.specs.Held.{data_in, ValidData}
+use Rattle.base_peer.specs.Held.{DataFields, fields_in, ValidData}
 use Rattle.base_peer.specs.Maps.{no_data, entry_bytes, ValidEntry}
-use Rattle.base_peer.proofs.Data.{length_bytes}
+use Rattle.base_peer.proofs.Data.{length_field}
 use Rattle.base_peer.proofs.Maps.{length_entry}
 use Rattle.spec_hyparview.specs.Rules.{all_short, short_data, limit_ok, settings_rule, repeats_rule, order_rule, capacity_rule, views_rule, alive_rule, few_rule, joins_rule, numbers_rule, self_rule, room_rule, data_rule, limit_rule, interval_rule, width_rule, held_rule, rules, station_ok, pins_rule}
 use Rattle.spec_hyparview.specs.Rules as R
@@ -217,10 +216,10 @@ data_short m v =
     rw (entries_values no_data layout.peer_data_places entry_bytes ValidEntry _ _ _ _ (data_entries layout.peer_data_places m v))
     (all_map ValidEntry (λ (b : List ℕ). length b ≤ max_data_length) entry_bytes (λ x h. omega (arith, length_entry x h, h.fits)) (take (count_of layout.peer_data_places m) (entries_at layout.peer_data_places m)) v.each)
 
-own_short : (d : PeerData) → ValidData d → short_data (data_in d) ≡ true
-unfolding short_data data_in choose
+own_short : (d : DataFields) → ValidData d → short_data (fields_in d) ≡ true
+unfolding short_data fields_in choose
 own_short d v =
-    split d.present (λ t. rw t (le-leb (length (take d.len d.bytes)) max_data_length (omega (arith, length_bytes d v, v.fits)))) (λ t. rw t)
+    split d.present (λ t. rw t (le-leb (length (take d.len d.bytes)) max_data_length (omega (arith, length_field d v, v.fits)))) (λ t. rw t)
 
 -- data have at most 16 bytes
 pub data_held : (xs : List ℕ) → packed_ok xs ≡ true → data_rule (unpack xs) ≡ true
@@ -229,27 +228,15 @@ data_held xs e = both_true _ _ (values_short _ (data_short _ (ok_shape xs e).sec
 
 -- ---- the rules together
 
-passed : (b : Bool) → not b ≡ false → b ≡ true
-passed true e = refl
-passed false e = sym e
-
-failed : (b : Bool) → not b ≡ true → b ≡ false
-failed true e = sym e
-failed false e = refl
-
 -- words of another length are no state, and those that are not well formed neither
 module _ (xs : List ℕ) where
-  pub other_length : (length xs ≡ layout.words → ⊥) → false ≡ state_ok xs
+  pub other_length : (length xs ≡ layout.words → ⊥) → state_ok xs ≡ false
   unfolding state_ok packed_ok
-  other_length n = rw (ne_eqb (length xs) layout.words n)
+  other_length n = rw (ne_eqb (length xs) layout.words n) refl
 
-  module _ (b : Bool) (e : b ≡ packed_ok xs) where
-    pub well_formed : not b ≡ false → packed_ok xs ≡ true
-    well_formed t = sym e ∙ passed b t
-
-    pub broken : not b ≡ true → false ≡ state_ok xs
-    unfolding state_ok
-    broken t = rw (← e, failed b t)
+  pub unpacked : (ys : List ℕ) → ys ≡ xs → (b : Bool) → b ≡ packed_ok ys → b ≡ false → state_ok xs ≡ false
+  unfolding state_ok
+  unpacked ys s b e n = let z : packed_ok xs ≡ false = ap packed_ok (sym s) ∙ sym e ∙ n in rw z refl
 
 -- three tests that stand behind the others
 behind : (v m r h : Bool) → (v && (m && (r && h))) ≡ (r && (v && (m && h)))

@@ -1,20 +1,19 @@
--- Words below a bound: what the loop carries, and what the tests of a state's parts say.
+-- Words below a bound: what the chain answers, and what the tests of a state's parts say.
 -- Assumes nothing.
-use Prim.Native.Nat.{ℕ, suc, ◌+◌, ◌≤◌, ◌<◌}
+use Prim.Native.Nat.{ℕ, suc, ◌+◌, ◌-◌, ◌<◌}
 use mathlib.Core.Path.{◌≡◌, refl, sym, ap, ◌∙◌}
-use mathlib.Core.Bool.{Bool, true, ◌&&◌, ◌||◌, and-true, and_assoc}
+use mathlib.Core.Bool.{Bool, true, ◌&&◌, ◌||◌, and_assoc}
 use mathlib.Core.List.{List, [], ◌∷◌}
 use native.Mathlib.Omega.{arith}
 use lib.ListN.{length, take, drop, get_or}
-use lib.Seq.{take-take, slice}
+use lib.Seq.{take-take}
 use lib.Dec.{leb, ltb, eqb}
 use borrow.Author.Tests.{lt-ltb, eq-eqb}
+use Rattle.std.specs.List.{list_all}
 use Rattle.base_lists.specs.Maps.{keys, values}
 use Rattle.base_lists.specs.Tests.{packed}
 use Rattle.base_lists.proofs.Tests.{both_true}
 use Rattle.base_lists.proofs.Entries.{entries_values}
-use Rattle.base_lists.proofs.Rest.{Rest, rest_next, rest_end}
-use Rattle.base_lists.proofs.Slices.{slice_part}
 use Rattle.base_util.specs.Section.{part, valid_set}
 use Rattle.base_columns.specs.Columns.{words_end, word_bytes, row, numbers_at, ValidNumbers, valid_numbers, valid_data_words}
 use Rattle.base_columns.proofs.Numbers.{number_entries, number_keys}
@@ -33,9 +32,10 @@ unfolding numbers_under all_under values
 numbers_are n [] = refl
 numbers_are n (e ∷ m) = ap (λ (b : Bool). ltb e.1 n && b) (numbers_are n m)
 
--- ok says what came of the numbers before those to come
-abbrev pub Below : ℕ → Bool → List ℕ → Bool
-Below e ok l = ok && all_under e l
+under_all : (e : ℕ) (xs : List ℕ) → all_under e xs ≡ list_all (λ x. ltb x e) xs
+unfolding all_under
+under_all e [] = refl
+under_all e (x ∷ xs) = ap (λ (b : Bool). ltb x e && b) (under_all e xs)
 
 module _ (n : ℕ) (m : List ℕ) (v : ValidNumbers n m) where
   -- the peers as the code lends them, and the numbers
@@ -43,30 +43,15 @@ module _ (n : ℕ) (m : List ℕ) (v : ValidNumbers n m) where
   unfolding part
   peers_lent = sym (number_keys n m v ∙ take-take (get_or m (n + n) 0) n m v.fits)
 
-  values_lent : values (numbers_at n m) ≡ slice n (n + get_or m (n + n) 0) m
+  values_lent : values (numbers_at n m) ≡ take (get_or m (n + n) 0) (drop n m)
   unfolding part
-  values_lent =
-      entries_values 0 n itself Any _ _ _ _ (number_entries n m v) ∙ map_itself (take (get_or m (n + n) 0) (part n n m)) ∙ take-take (get_or m (n + n) 0) n (drop n m) v.fits
-      ∙ slice_part n (get_or m (n + n) 0) m
+  values_lent = entries_values 0 n itself Any _ _ _ _ (number_entries n m v) ∙ map_itself (take (get_or m (n + n) 0) (part n n m)) ∙ take-take (get_or m (n + n) 0) n (drop n m) v.fits
 
-  -- the loop begins at the first number
-  pub below_start : (e : ℕ) → Rest (Below e) (length m) m (n + get_or m (n + n) 0) (numbers_under e (numbers_at n m)) true n
-  below_start e =
-      record {
-        low = omega arith;
-        top = omega (arith, v.fits, v.long);
-        long = refl;
-        same = numbers_are e (numbers_at n m) ∙ ap (all_under e) values_lent;
-      }
-
-module _ (e : ℕ) (m : List ℕ) (last : ℕ) (whole ok : Bool) (i : ℕ) (v : Rest (Below e) (length m) m last whole ok i) where
-  pub below_next : i < last → Rest (Below e) (length m) m last whole (ok && ltb (get_or m i 0) e) (i + 1)
-  unfolding all_under
-  below_next h = rest_next 0 (Below e) v (ok && ltb (get_or m i 0) e) h (λ l. sym (and_assoc ok (ltb (get_or m i 0) e) (all_under e l)))
-
-  pub below_end : last ≤ i → ok ≡ whole
-  unfolding all_under
-  below_end h = sym (rest_end 0 (Below e) v h ∙ and-true ok)
+  -- the test of each number, as `all` makes it
+  pub under_is : (e : ℕ) → numbers_under e (numbers_at n m) ≡ list_all (λ x. ltb x e) (take (n + get_or m (n + n) 0 - n) (drop n m))
+  under_is e =
+      let k : get_or m (n + n) 0 ≡ n + get_or m (n + n) 0 - n = omega arith in
+      numbers_are e (numbers_at n m) ∙ ap (all_under e) values_lent ∙ under_all e _ ∙ ap (λ (i : ℕ). list_all (λ x. ltb x e) (take i (drop n m))) k
 
 -- ---- the numbers of a state
 

@@ -19,7 +19,7 @@ use Rattle.base_columns.specs.Columns.{words_end, word_bytes, rows, count_of, he
 use Rattle.base_columns.proofs.Numbers.{number_keys}
 use Rattle.base_columns.proofs.Data.{data_entries, data_keys}
 use Rattle.base_peer.specs.Data.{Data, bytes_of}
-use Rattle.base_peer.specs.Held.{data_in}
+use Rattle.base_peer.specs.Held.{fields_in}
 use Rattle.base_peer.specs.Maps.{no_data, entry_bytes, ValidEntry}
 use Rattle.spec_hyparview.specs.Rules.{all_under, lists_under, peer_lists, data_lists, width_rule}
 use Rattle.spec_hyparview.specs.Station.{peers_end, bytes_end, top_counter, top_passes}
@@ -122,8 +122,8 @@ rows_under (suc k) (l ∷ ls) [] xs = refl
 rows_under (suc k) (l ∷ ls) (w ∷ ws) [] = refl
 rows_under (suc k) (l ∷ ls) (w ∷ ws) (x ∷ xs) = both_true (all_under bytes_end (take l (word_bytes w x))) _ (word_under l w x) (rows_under k ls ws xs)
 
-own_under : (xs : List ℕ) → all_under bytes_end (bytes_of (data_in (own_at xs))) ≡ true
-unfolding data_in own_at bytes_of all_under
+own_under : (xs : List ℕ) → all_under bytes_end (bytes_of (fields_in (own_at xs))) ≡ true
+unfolding fields_in own_at bytes_of all_under
 own_under xs = by_choice (λ (d : Data). all_under bytes_end (bytes_of d) ≡ true) _ (λ t. word_under (layout.own_len xs) (layout.own_low xs) (layout.own_high xs)) (λ t. refl)
 
 held_under : (m : List ℕ) → ValidDataWords layout.peer_data_places m → lists_under bytes_end (values (data_map_at layout.peer_data_places m)) ≡ true

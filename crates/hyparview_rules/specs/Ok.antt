@@ -1,6 +1,6 @@
 -- "the state breaks a station rule": the test of every station rule of document 01 on words, however many there are and whatever they are.
 -- Assumes nothing.
-use Rattle.std.specs.Prelude.{ℕ, Bool, ◌&&◌, List, length, leb, eqb}
+use Rattle.std.specs.Prelude.{ℕ, ◌≡◌, Bool, true, ◌&&◌, List, length, leb, eqb}
 use Rattle.base_util.specs.Section.{valid_set}
 use Rattle.base_columns.specs.Columns.{words_end, valid_numbers, valid_data_words}
 use Rattle.base_peer.specs.Held.{valid_data}
@@ -43,3 +43,8 @@ view_rules g = views_rule g && (alive_rule g && held_rule g)
 -- every station rule, unused places included
 unfoldable pub state_ok : List ℕ → Bool
 state_ok xs = packed_ok xs && station_ok (unpack xs)
+
+-- the words xs keep every rule, and ys are they
+pub record Keeps (xs ys : List ℕ) : Type 0 where
+  pub ok : state_ok xs ≡ true
+  pub same : ys ≡ xs

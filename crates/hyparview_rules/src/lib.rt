@@ -1,16 +1,15 @@
 // The test of every station rule of document 01 on the words of a state.
 #![tactic(auto)]
 
-ghost use Rattle.std.specs.Prelude.{◌≡◌, true, length};
+ghost use Rattle.std.specs.Prelude.{◌≡◌, true, false, MatchOption};
 ghost use Rattle.base_peer.specs.Maps.{numbers_under};
 ghost use Rattle.base_columns.specs.Columns.{numbers_at, ValidNumbers};
 ghost use Rattle.spec_hyparview.specs.Rules.{settings_rule, repeats_rule, order_rule, joins_rule, numbers_rule, pins_rule};
-ghost use Rattle.hyparview_state.specs.Layout.{words};
 ghost use Rattle.hyparview_state.specs.Unpack.{unpack};
-ghost use Rattle.hyparview_rules.specs.Ok.{sections_ok, packed_ok, view_rules, state_ok};
+ghost use Rattle.hyparview_rules.specs.Ok.{sections_ok, packed_ok, view_rules, state_ok, Keeps};
 
 use base_timing::{Config, Timing};
-use hyparview_state::{Layout, RefillLimit};
+use hyparview_state::{Layout, RefillLimit, Words};
 
 // ---- a test of the numbers of a map
 
@@ -19,22 +18,14 @@ fn numbers_under(m: &[u64], cap: usize, end: u64) -> bool
     requires { ValidNumbers cap m.now }
     ensures { result ≡ numbers_under end (numbers_at cap m.now) }
 {
-    let at = cap + cap;
-    let last = cap + m[at] as usize;
-    let mut ok = true;
-    let mut i = cap;
-    while i < last {
-        ok = ok & (m[i] < end);
-        i += 1;
-    }
-    ok
+    let last = cap + m[cap + cap] as usize;
+    m[cap..last].iter().all(|&x| x < end)
 }
 
 // ---- whether words are a state's at all
 
 // Whether every set and map is well formed, by tools/make/layout.py
-fn sections_valid(st: &[u64]) -> bool
-    requires { length st.now ≡ words }
+fn sections_valid(st: &Words) -> bool
     ensures { result ≡ sections_ok st.now }
 {
     base_util::is_section(
@@ -69,9 +60,9 @@ fn sections_valid(st: &[u64]) -> bool
 }
 // end
 
-// Whether every part is well formed, with zeroes in the unused places, so that a station has one form in words; of any words.
-fn is_packed(st: &[u64]) -> bool
-    requires { length st.now ≡ words }
+// Whether every part is well formed, with zeroes in the unused places, so that a station has one form in words; of any words. Tests are joined
+// by `&` here and in the rules: to stop at the first that fails is no faster, and each stop would be a case of the proof.
+fn is_packed(st: &Words) -> bool
     ensures { result ≡ packed_ok st.now }
 {
     // A word that stands for a bool or a limit has one of its values. That every word has 64 bits is its type.
@@ -106,8 +97,7 @@ const SHUFFLE_PASSIVE_TOP: u64 = Config::MOST_SHUFFLE_PASSIVE as u64;
 const TIME_TOP: u64 = Config::LONGEST_TIME as u64;
 
 // "settings in range"
-fn settings_rule(st: &[u64]) -> bool
-    requires { length st.now ≡ words }
+fn settings_rule(st: &Words) -> bool
     ensures { result ≡ settings_rule (unpack st.now) }
 {
     (1 <= st[Layout::ACTIVE_VIEW_CAPACITY])
@@ -126,9 +116,8 @@ fn settings_rule(st: &[u64]) -> bool
 }
 
 // "every list free of repeats"; maps and sets are, where they rise.
-fn repeats_rule(st: &[u64]) -> bool
-    requires st_len { length st.now ≡ words }
-    requires st_value { packed_ok st.now ≡ true }
+fn repeats_rule(st: &Words) -> bool
+    requires { packed_ok st.now ≡ true }
     ensures { result ≡ repeats_rule (unpack st.now) }
 {
     base_util::is_distinct(
@@ -147,9 +136,8 @@ fn repeats_rule(st: &[u64]) -> bool
 }
 
 // "those for maps and sets in rising peer order"; a well formed map rises.
-fn order_rule(st: &[u64]) -> bool
-    requires st_len { length st.now ≡ words }
-    requires st_value { packed_ok st.now ≡ true }
+fn order_rule(st: &Words) -> bool
+    requires { packed_ok st.now ≡ true }
     ensures { result ≡ order_rule (unpack st.now) }
 {
     base_util::is_rising(&st[Layout::ALIVE..Layout::ALIVE_END], Layout::ALIVE_PLACES)
@@ -161,9 +149,8 @@ fn order_rule(st: &[u64]) -> bool
 }
 
 // "views as in demand 3": disjoint and without the station itself; and the rules that hold other lists against the views.
-fn views_rule(st: &[u64]) -> bool
-    requires st_len { length st.now ≡ words }
-    requires st_value { packed_ok st.now ≡ true }
+fn views_rule(st: &Words) -> bool
+    requires { packed_ok st.now ≡ true }
     ensures { result ≡ view_rules (unpack st.now) }
 {
     let me = st[Layout::ME];
@@ -186,9 +173,8 @@ fn views_rule(st: &[u64]) -> bool
 }
 
 // "pending joins bootstrap, not active, not self"
-fn joins_rule(st: &[u64]) -> bool
-    requires st_len { length st.now ≡ words }
-    requires st_value { packed_ok st.now ≡ true }
+fn joins_rule(st: &Words) -> bool
+    requires { packed_ok st.now ≡ true }
     ensures { result ≡ joins_rule (unpack st.now) }
 {
     let n = st[Layout::JOINS_COUNT] as usize;
@@ -204,9 +190,8 @@ fn joins_rule(st: &[u64]) -> bool
 }
 
 // "open numbers below their counters"
-fn numbers_rule(st: &[u64]) -> bool
-    requires st_len { length st.now ≡ words }
-    requires st_value { packed_ok st.now ≡ true }
+fn numbers_rule(st: &Words) -> bool
+    requires { packed_ok st.now ≡ true }
     ensures { result ≡ numbers_rule (unpack st.now) }
 {
     let next_request = st[Layout::NEXT_NEIGHBOR_REQUEST];
@@ -223,9 +208,8 @@ fn numbers_rule(st: &[u64]) -> bool
 }
 
 // 02, S-14: "pins on active peers only, within that limit", the active capacity less one.
-fn pins_rule(st: &[u64]) -> bool
-    requires st_len { length st.now ≡ words }
-    requires st_value { packed_ok st.now ≡ true }
+fn pins_rule(st: &Words) -> bool
+    requires { packed_ok st.now ≡ true }
     ensures { result ≡ pins_rule (unpack st.now) }
 {
     let n = st[Layout::PINS_COUNT];
@@ -235,17 +219,12 @@ fn pins_rule(st: &[u64]) -> bool
         & ((n == 0) | (n < st[Layout::ACTIVE_VIEW_CAPACITY]))
 }
 
-// Whether the words keep every station rule, unused places included; of any words, however many. That sets and maps have room, bootstrap
-// and recent peers are few and data are short is so of all well formed words.
-pub fn is_ok(st: &[u64]) -> bool
+// Whether well formed words keep every station rule. That sets and maps have room, bootstrap and recent peers are few and data are short is
+// so of all of them.
+fn keeps_rules(st: &Words) -> bool
+    requires { packed_ok st.now ≡ true }
     ensures { result ≡ state_ok st.now }
 {
-    if st.len() != Layout::LENGTH {
-        return false;
-    }
-    if !is_packed(st) {
-        return false;
-    }
     let me = st[Layout::ME];
     settings_rule(st)
         & repeats_rule(st)
@@ -271,4 +250,24 @@ pub fn is_ok(st: &[u64]) -> bool
         & (st[Layout::PASSES_SHORT] <= hyparview_state::TOP_PASSES)
         & views_rule(st)
         & pins_rule(st)
+}
+
+// The words as a state's, where they keep every station rule, unused places included; of any words, however many.
+pub fn checked(st: &[u64]) -> Option<&Words>
+    ensures { MatchOption result (state_ok st.now ≡ false) (λ w. Keeps st.now w.now) }
+{
+    let Some(words) = st.as_array() else {
+        return None;
+    };
+    if !is_packed(words) {
+        return None;
+    }
+    keeps_rules(words).then_some(words)
+}
+
+// Whether the words are a state's and keep every station rule.
+pub fn is_ok(st: &[u64]) -> bool
+    ensures { result ≡ state_ok st.now }
+{
+    checked(st).is_some()
 }

@@ -12,7 +12,6 @@ use Rattle.base_lists.proofs.Choice.{and_left, and_right}
 use Rattle.base_util.specs.Section.{items_at, ValidSet}
 use Rattle.base_util.proofs.Parts.{part_read}
 use Rattle.base_columns.specs.Columns.{ValidNumbers, ValidDataWords}
-use Rattle.base_peer.specs.declared.PeerData.{PeerData}
 use Rattle.base_peer.specs.Held.{ValidData}
 use Rattle.base_timing.specs.Timing.{in_range, within, longest_time, most_active}
 use Rattle.spec_hyparview.specs.Station.{top_passes}
@@ -22,9 +21,6 @@ use Rattle.hyparview_state.specs.Unpack.{own_at, settings_at, PackedState, opene
 module _ (xs : List ℕ) (p : PackedState xs) where
   pub of_own_data : ValidData (own_at xs)
   of_own_data = (opened p).own_data
-
-  pub of_own : (d : PeerData) → d ≡ own_at xs → ValidData d
-  of_own d e = rw e of_own_data
 
   pub of_settings : in_range (settings_at xs) ≡ true
   of_settings = (opened p).settings
@@ -88,7 +84,7 @@ pub ruleset of_sections = (of_active, of_passive, of_alive, of_refused, of_reque
 
 -- end
 
-pub ruleset of_packed = (of_own_data, of_own, of_own_len, of_settings, of_interval, of_alone, of_short, of_sections, active_fits, passive_fits)
+pub ruleset of_packed = (of_own_data, of_own_len, of_settings, of_interval, of_alone, of_short, of_sections, active_fits, passive_fits)
 
 -- ---- the counts of the views, as they are read
 

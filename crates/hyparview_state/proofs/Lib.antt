@@ -5,4 +5,5 @@ pub mod Access
 pub mod Counts
 pub mod Limits
 pub mod Bridge
+pub mod Own
 pub mod Any

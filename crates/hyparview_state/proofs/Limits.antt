@@ -4,19 +4,21 @@ use Prim.Native.Nat.{ℕ, ◌-◌}
 use mathlib.Core.Path.{◌≡◌, refl, sym, ap, subst, ◌∙◌}
 use mathlib.Core.Bool.{Bool, true, false, ◌&&◌, ◌||◌}
 use mathlib.Core.List.{List}
+use mathlib.Core.Option.{some}
 use native.Mathlib.Omega.{arith}
 use borrow.Author.Tests.{eqb-true, eqb-false, leb-true}
 use lib.Dec.{eqb, leb}
 use lib.ListN.{get_or, set, take, drop}
 use lib.Seq.{get_or-set_other, set-get_or}
-use mir.Val.{bool_byte}
 use Rattle.base_lists.specs.Lists.{choose}
 use Rattle.base_lists.specs.Bytes.{le}
-use Rattle.base_lists.proofs.Choice.{split, choose_yes, choose_no, and_left, and_right, or_true}
+use Rattle.base_lists.proofs.Choice.{split, clash, choose_yes, choose_no, and_left, and_right, or_true}
+use Rattle.std.specs.Prelude.{Some, None}
+use Rattle.base_lists.specs.Array.{pad}
 use Rattle.base_columns.specs.Columns.{word_bytes}
 use Rattle.base_columns.proofs.Data.{bytes_back}
 use Rattle.base_peer.specs.declared.PeerData.{PeerData}
-use Rattle.base_peer.specs.Held.{data_in, ValidData, HoldsData}
+use Rattle.base_peer.specs.Held.{data_in, fields_in, HoldsData}
 use Rattle.spec_hyparview.specs.Station.{Refill, automatic, requests_left, recovery, is_automatic, is_spent, is_recovery}
 use Rattle.spec_hyparview.specs.Setters.{set_own_data, set_refill}
 use Rattle.spec_hyparview.specs.Refill.{unless_recovery, one_less}
@@ -24,7 +26,7 @@ use Rattle.hyparview_state.specs.declared.RefillLimit.{RefillLimit}
 use Rattle.hyparview_state.specs.declared.RefillLimit.TheVariants.{Automatic, Requests, Recovery}
 use Rattle.hyparview_state.specs.Layout.{refill_kind, refill_requests, own_high_at, own_len_at, own_low_at, own_present_at, refill_kind_at, refill_requests_at}
 use Rattle.hyparview_state.specs.Unpack.{unpack, station_of, limit_at, limit_formed, refill_in, PackedState, opened, Becomes}
-use Rattle.hyparview_state.proofs.Memory.{two_limit, byte_fits, byte_back}
+use Rattle.hyparview_state.proofs.Memory.{two_limit}
 use Rattle.hyparview_state.proofs.Fields.{put_own_data, put_refill}
 
 as_they_are : (xs : List ℕ) → PackedState xs → Becomes xs (unpack xs)
@@ -136,10 +138,25 @@ module _ (old new : RefillLimit) (t : Bool) (e : t ≡ is_recovery (refill_in ol
   unfolding unless_recovery
   no_recovery h = sym (choose_no (is_recovery (refill_in old)) recovery (refill_in new) (sym e ∙ h))
 
-pub kept_own : (xs : List ℕ) (d : PeerData) (low high : ℕ) → PackedState xs → ValidData d → le 8 low ≡ take 8 (drop 0 d.bytes) → le 8 high ≡ take 8 (drop 8 d.bytes)
-    → Becomes (set (set (set (set xs own_present_at (bool_byte d.present)) own_len_at d.len) own_low_at low) own_high_at high) (set_own_data (data_in d) (unpack xs))
-kept_own xs d low high p v e f =
-    let q : record { present = eqb (bool_byte d.present) 1; len = d.len; bytes = word_bytes low high } ≡ d =
-    λ i. record { present = byte_back d.present i; len = d.len; bytes = bytes_back d low high v e f i } in
-    put_own_data (bool_byte d.present) d.len low high (byte_fits d.present)
-    (subst (λ (x : PeerData). HoldsData x (data_in d)) (sym q) (record { valid = v; holds = refl })) (as_they_are xs p)
+-- own data as it is stored: there, or absent
+some_held : (d : PeerData) (low high : ℕ) → word_bytes low high ≡ d.bytes → HoldsData (record { present = true; len = d.len; bytes = word_bytes low high }) (data_in (Some d))
+unfolding data_in fields_in choose
+some_held d low high b = record {
+  valid = record {
+    fits = d.fits;
+    packed = subst (λ (t : List ℕ). t ≡ pad 0 16 (take d.len t)) (sym b) d.packed;
+    absent = λ z. clash true refl z;
+  };
+  holds = ap (λ (t : List ℕ). some (take d.len t)) b;
+}
+
+none_held : HoldsData (record { present = false; len = 0; bytes = word_bytes 0 0 }) (data_in None)
+unfolding data_in fields_in choose word_bytes le pad
+none_held = record { valid = record { fits = omega arith; packed = refl; absent = λ z. refl }; holds = refl }
+
+pub kept_some : (xs : List ℕ) (d : PeerData) (low high : ℕ) → PackedState xs → le 8 low ≡ take 8 (drop 0 d.bytes) → le 8 high ≡ take 8 (drop 8 d.bytes)
+    → Becomes (set (set (set (set xs own_present_at 1) own_len_at d.len) own_low_at low) own_high_at high) (set_own_data (data_in (Some d)) (unpack xs))
+kept_some xs d low high p e f = put_own_data 1 d.len low high (omega arith) (some_held d low high (bytes_back d low high e f)) (as_they_are xs p)
+
+pub kept_none : (xs : List ℕ) → PackedState xs → Becomes (set (set (set (set xs own_present_at 0) own_len_at 0) own_low_at 0) own_high_at 0) (set_own_data (data_in None) (unpack xs))
+kept_none xs p = put_own_data 0 0 0 0 (omega arith) none_held (as_they_are xs p)

@@ -42,9 +42,9 @@ module _ (xs : List ℕ) where
   unfolding limit_at choose
   limit_automatic z = rw (eq-eqb (refill_kind xs) 0 z)
 
-  pub limit_requests : (refill_kind xs ≡ 0 → ⊥) → refill_kind xs ≡ 1 → Requests (refill_requests xs) ≡ limit_at xs
+  pub limit_requests : refill_kind xs ≡ 1 → Requests (refill_requests xs) ≡ limit_at xs
   unfolding limit_at choose
-  limit_requests z o = rw (ne_eqb (refill_kind xs) 0 z, eq-eqb (refill_kind xs) 1 o)
+  limit_requests o = rw o
 
   pub limit_recovery : (refill_kind xs ≡ 0 → ⊥) → (refill_kind xs ≡ 1 → ⊥) → Recovery ≡ limit_at xs
   unfolding limit_at choose

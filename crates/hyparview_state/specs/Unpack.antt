@@ -4,8 +4,7 @@ use Rattle.std.specs.Prelude.{ℕ, ◌≤◌, ◌≡◌, Bool, true, ◌&&◌, �
 use Rattle.base_lists.specs.Lists.{choose}
 use Rattle.base_util.specs.Section.{items_at}
 use Rattle.base_columns.specs.Columns.{numbers_at, word_bytes, data_map_at}
-use Rattle.base_peer.specs.declared.PeerData.{PeerData}
-use Rattle.base_peer.specs.Held.{data_in, ValidData}
+use Rattle.base_peer.specs.Held.{DataFields, fields_in, ValidData}
 use Rattle.base_timing.specs.declared.Config.{Config}
 use Rattle.base_timing.specs.Timing.{longest_time, in_range}
 use Rattle.spec_hyparview.specs.Station.{Station, Refill, automatic, requests_left, recovery, top_passes}
@@ -17,7 +16,7 @@ use Rattle.hyparview_state.specs.Layout.{words, Sections, sections, WellFormed}
 
 -- ---- own data, the settings and the limit on refills, of the numbers n
 
-unfoldable pub own_at : List ℕ → PeerData
+unfoldable pub own_at : List ℕ → DataFields
 own_at n = record { present = eqb (layout.own_present n) 1; len = layout.own_len n; bytes = word_bytes (layout.own_low n) (layout.own_high n) }
 
 -- the settings, by tools/make/layout.py
@@ -55,7 +54,7 @@ refill_in Recovery = recovery
 unfoldable pub station_of : List ℕ → Sections → Station
 station_of n s = record {
   me = layout.me n;
-  own_data = data_in (own_at n);
+  own_data = fields_in (own_at n);
   active = items_at layout.active_places s.active;
   passive = items_at layout.passive_places s.passive;
   config = settings_at n;

@@ -1,15 +1,15 @@
 // The state of a station as one lent list of words: its layout, the queries, and the open requests and joins of a peer.
 #![tactic(auto)]
 
-ghost use Rattle.std.specs.Prelude.{◌≡◌, length};
+ghost use Rattle.std.specs.Prelude.{◌≡◌};
+ghost use Rattle.base_peer.specs.Held.{data_in};
 ghost use Rattle.spec_hyparview.specs.Run.{on};
 ghost use Rattle.spec_hyparview.specs.Setters.{set_refill};
 ghost use Rattle.spec_hyparview.specs.Messages.{drop_join, drop_request, drop_pending};
 ghost use Rattle.spec_hyparview.specs.Station.{is_me, in_active, in_passive, is_alone, active_is_full, is_short, is_last_hop};
 ghost use Rattle.spec_hyparview.specs.Station.{is_recovery, is_requested};
 ghost use Rattle.spec_hyparview.specs.Refill.{few_requests, unless_recovery};
-ghost use Rattle.hyparview_state.specs.Layout.{words};
-ghost use Rattle.hyparview_state.specs.Unpack.{unpack, own_at, limit_at, refill_in, PackedState, Becomes};
+ghost use Rattle.hyparview_state.specs.Unpack.{unpack, limit_at, refill_in, PackedState, Becomes};
 ghost use Rattle.hyparview_state.specs.Work.{Alters};
 
 use base_peer::{PeerData, PeerId};
@@ -18,7 +18,8 @@ use work::Work;
 
 // The layout of the state: the place of each number, and where each section begins and ends. A set is its places and then their count;
 // a map has more columns of as many places before the count. Every name is a whole constant, since a sum in the body of a function would
-// be one more thing to prove.
+// be one more thing to prove. A function is lent a section as words and places, since a const parameter would compile it for each size, and
+// the code has a limit.
 #[derive(Clone, Copy)]
 pub struct Layout {}
 
@@ -159,6 +160,9 @@ impl Layout {
     // end
 }
 
+// The words of a state.
+pub type Words = [u64; Layout::LENGTH];
+
 // The last number of a request or a join (the Rust's `u64::MAX`), and the most passes that are counted (`u32::MAX`): past them is code 10.
 pub const TOP_COUNTER: u64 = 18446744073709551615;
 
@@ -175,54 +179,41 @@ pub enum RefillLimit {
 // ---- own data and the limit on refills
 
 // Own data as Join, Neighbor and Shuffle carry it.
-pub fn own_data(st: &[u64]) -> PeerData
-    requires st_len { length st.now ≡ words }
+pub fn own_data(st: &Words) -> Option<PeerData>
     requires packed_state { PackedState st.now }
-    ensures { result ≡ own_at st.now }
+    ensures { data_in result ≡ (unpack st.now).own_data }
 {
-    let bytes = base_columns::bytes_of(st[Layout::OWN_LOW], st[Layout::OWN_HIGH]);
-    let len = st[Layout::OWN_LEN] as u8;
-    PeerData {
-        present: st[Layout::OWN_PRESENT] == 1,
-        len: len,
-        bytes: bytes,
+    if st[Layout::OWN_PRESENT] == 0 {
+        return None;
     }
+    let len = st[Layout::OWN_LEN] as u8;
+    let bytes = base_columns::bytes_of(st[Layout::OWN_LOW], st[Layout::OWN_HIGH]);
+    Some(PeerData { len, bytes })
 }
 
 // The limit out of its two words, as a case to be matched.
-pub fn limit_of(st: &[u64]) -> RefillLimit
-    requires { length st.now ≡ words }
+pub fn limit_of(st: &Words) -> RefillLimit
     ensures { result ≡ limit_at st.now }
 {
-    if st[Layout::REFILL_KIND] == RefillLimit::AUTOMATIC {
-        return RefillLimit::Automatic;
+    match st[Layout::REFILL_KIND] {
+        RefillLimit::AUTOMATIC => RefillLimit::Automatic,
+        RefillLimit::REQUESTS_LEFT => RefillLimit::Requests(st[Layout::REFILL_REQUESTS]),
+        _ => RefillLimit::Recovery,
     }
-    if st[Layout::REFILL_KIND] == RefillLimit::REQUESTS_LEFT {
-        return RefillLimit::Requests(st[Layout::REFILL_REQUESTS]);
-    }
-    RefillLimit::Recovery
 }
 
 // The word of the requests is 0 but in its own case, so that one limit has one form in words.
-pub fn keep_limit(st: &mut [u64], l: RefillLimit)
-    requires st_len { length st.old ≡ words }
+pub fn keep_limit(st: &mut Words, l: RefillLimit)
     requires packed_state { PackedState st.old }
     ensures { Becomes st.new (set_refill (refill_in l) (unpack st.old)) }
 {
-    match l {
-        RefillLimit::Automatic => {
-            st[Layout::REFILL_KIND] = RefillLimit::AUTOMATIC;
-            st[Layout::REFILL_REQUESTS] = 0;
-        }
-        RefillLimit::Requests(n) => {
-            st[Layout::REFILL_KIND] = RefillLimit::REQUESTS_LEFT;
-            st[Layout::REFILL_REQUESTS] = n;
-        }
-        RefillLimit::Recovery => {
-            st[Layout::REFILL_KIND] = RefillLimit::RECOVERY;
-            st[Layout::REFILL_REQUESTS] = 0;
-        }
-    }
+    let (kind, requests) = match l {
+        RefillLimit::Automatic => (RefillLimit::AUTOMATIC, 0),
+        RefillLimit::Requests(n) => (RefillLimit::REQUESTS_LEFT, n),
+        RefillLimit::Recovery => (RefillLimit::RECOVERY, 0),
+    };
+    st[Layout::REFILL_KIND] = kind;
+    st[Layout::REFILL_REQUESTS] = requests;
 }
 
 impl RefillLimit {
@@ -237,11 +228,7 @@ impl RefillLimit {
     pub fn is_recovery(self) -> bool
         ensures { result ≡ is_recovery (refill_in self) }
     {
-        match self {
-            RefillLimit::Automatic => false,
-            RefillLimit::Requests(_) => false,
-            RefillLimit::Recovery => true,
-        }
+        matches!(self, RefillLimit::Recovery)
     }
 
     // A limit of `MAX_REQUESTS_PER_REFILL`, for a short station, which has probably full peers to ask.
@@ -265,16 +252,14 @@ impl RefillLimit {
 // ---- what several steps ask of the state
 
 // The station is no peer of its own: it is in no view, and no data is held under it.
-pub fn is_me(st: &[u64], p: PeerId) -> bool
-    requires { length st.now ≡ words }
+pub fn is_me(st: &Words, p: PeerId) -> bool
     ensures { result ≡ is_me p (unpack st.now) }
 {
     p == st[Layout::ME]
 }
 
 // Whether p is a neighbor, that is, connected.
-pub fn in_active(st: &[u64], p: PeerId) -> bool
-    requires st_len { length st.now ≡ words }
+pub fn in_active(st: &Words, p: PeerId) -> bool
     requires packed_state { PackedState st.now }
     ensures { result ≡ in_active p (unpack st.now) }
 {
@@ -286,8 +271,7 @@ pub fn in_active(st: &[u64], p: PeerId) -> bool
 }
 
 // Whether p is a spare peer, known but not connected.
-pub fn in_passive(st: &[u64], p: PeerId) -> bool
-    requires st_len { length st.now ≡ words }
+pub fn in_passive(st: &Words, p: PeerId) -> bool
     requires packed_state { PackedState st.now }
     ensures { result ≡ in_passive p (unpack st.now) }
 {
@@ -299,8 +283,7 @@ pub fn in_passive(st: &[u64], p: PeerId) -> bool
 }
 
 // Whether a request to p is open: a Neighbor from p is then its answer, and a ShuffleReply from p comes before a refusal.
-pub fn is_requested(st: &[u64], p: PeerId) -> bool
-    requires st_len { length st.now ≡ words }
+pub fn is_requested(st: &Words, p: PeerId) -> bool
     requires packed_state { PackedState st.now }
     ensures { result ≡ is_requested p (unpack st.now) }
 {
@@ -312,8 +295,7 @@ pub fn is_requested(st: &[u64], p: PeerId) -> bool
 }
 
 // Whether there is no neighbor: requests then have high priority, and no shuffle can be sent.
-pub fn is_alone(st: &[u64]) -> bool
-    requires st_len { length st.now ≡ words }
+pub fn is_alone(st: &Words) -> bool
     requires packed_state { PackedState st.now }
     ensures { result ≡ is_alone (unpack st.now) }
 {
@@ -321,8 +303,7 @@ pub fn is_alone(st: &[u64]) -> bool
 }
 
 // A full view refuses low priority, and gives up a neighbor for high priority.
-pub fn active_is_full(st: &[u64]) -> bool
-    requires st_len { length st.now ≡ words }
+pub fn active_is_full(st: &Words) -> bool
     requires packed_state { PackedState st.now }
     ensures { result ≡ active_is_full (unpack st.now) }
 {
@@ -330,8 +311,7 @@ pub fn active_is_full(st: &[u64]) -> bool
 }
 
 // Fewer neighbors than half the capacity, rounded up: one place free is usual, since whoever could fill it is mostly full itself.
-pub fn is_short(st: &[u64]) -> bool
-    requires st_len { length st.now ≡ words }
+pub fn is_short(st: &Words) -> bool
     requires packed_state { PackedState st.now }
     ensures { result ≡ is_short (unpack st.now) }
 {
@@ -339,19 +319,18 @@ pub fn is_short(st: &[u64]) -> bool
 }
 
 // Whether a walk ends here for want of neighbors: the one that there is may have sent it.
-pub fn is_last_hop(st: &[u64]) -> bool
-    requires st_len { length st.now ≡ words }
+pub fn is_last_hop(st: &Words) -> bool
     requires packed_state { PackedState st.now }
     ensures { result ≡ is_last_hop (unpack st.now) }
 {
     st[Layout::ACTIVE_COUNT] <= 1
 }
 
-// ---- the open requests and the open joins of a peer
+// ---- the open requests and the open joins of a peer: two functions of one line each, since one would be given the section, its places and
+// the definition's step
 
 // p was heard from, or its retry is sent now, so that no further Join goes to it.
-pub fn drop_join(w: Work, st: &mut [u64], p: PeerId) -> Work
-    requires st_len { length st.old ≡ words }
+pub fn drop_join(w: Work, st: &mut Words, p: PeerId) -> Work
     requires packed_state { PackedState st.old }
     ensures { Alters (on (drop_join p)) w result st }
 {
@@ -367,8 +346,7 @@ pub fn drop_join(w: Work, st: &mut [u64], p: PeerId) -> Work
 }
 
 // The request to p was answered, has failed or is void, and its timer is to do nothing any more.
-pub fn drop_request(w: Work, st: &mut [u64], p: PeerId) -> Work
-    requires st_len { length st.old ≡ words }
+pub fn drop_request(w: Work, st: &mut Words, p: PeerId) -> Work
     requires packed_state { PackedState st.old }
     ensures { Alters (on (drop_request p)) w result st }
 {
@@ -385,8 +363,7 @@ pub fn drop_request(w: Work, st: &mut [u64], p: PeerId) -> Work
 
 // p joins or answers. Where it joins it knows nothing of an open request, which would keep its Join from being answered
 // (spec_hyparview/Messages `drop_pending`).
-pub fn drop_pending(w: Work, st: &mut [u64], p: PeerId) -> Work
-    requires st_len { length st.old ≡ words }
+pub fn drop_pending(w: Work, st: &mut Words, p: PeerId) -> Work
     requires packed_state { PackedState st.old }
     ensures { Alters (drop_pending p) w result st }
 {

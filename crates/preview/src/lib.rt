@@ -1,17 +1,16 @@
 // The price of an event (02, S-9): what it would send, write and draw, told before it is done.
 #![tactic(auto)]
 
-ghost use Rattle.std.specs.Prelude.{◌≡◌, ◌+◌, ◌<◌};
-ghost use Rattle.base_columns.specs.Columns.{words_end};
+ghost use Rattle.std.specs.Prelude.{◌≡◌};
 ghost use Rattle.spec_hyparview.specs.Sides.{side_of};
-ghost use Rattle.preview.specs.Preview.{add_message, priced_records, no_price, preview};
+ghost use Rattle.preview.specs.Preview.{priced_records, no_price, preview};
 
 use hyparview::OUTPUT;
 use hyparview_state::Layout;
-use record::{HEADER, Header, Kind, Refusal};
+use record::{Kind, Records, Refusal};
 
 // What an output's records come to.
-#[derive(Clone, Copy)]
+#[derive(Clone, Copy, Default)]
 pub struct Count {
     pub messages: usize,
     pub bytes: usize,
@@ -19,7 +18,7 @@ pub struct Count {
 
 // What a call would answer: its code, the messages to neighbors, the bytes of output written and the draws used.
 #[repr(C)]
-#[derive(Clone, Copy)]
+#[derive(Clone, Copy, Default)]
 pub struct Price {
     pub code: u32,
     pub messages: usize,
@@ -27,47 +26,16 @@ pub struct Price {
     pub draws: usize,
 }
 
-// One message more where the record is one: only kind 0 is.
-fn add_message(h: Header, n: usize) -> usize
-    requires { n + 1 < words_end }
-    ensures { result ≡ add_message h.kind n }
-{
-    if h.kind == Kind::MESSAGE {
-        return n + 1;
-    }
-    n
-}
-
 // The messages among an output's records, and the bytes of all of them.
 fn priced_records(out: &[u8]) -> Count
     ensures { result ≡ priced_records out.now }
 {
-    let mut messages: usize = 0;
-    let mut bytes: usize = 0;
-    let mut rest = out;
-    while HEADER <= rest.len() {
-        let h = record::read_header(rest);
-        let n = h.size as usize;
-        if n == 0 {
-            return Count {
-                messages: messages,
-                bytes: bytes,
-            };
-        }
-        messages = add_message(h, messages);
-        bytes += n;
-        if rest.len() < n {
-            return Count {
-                messages: messages,
-                bytes: bytes,
-            };
-        }
-        rest = &rest[n..];
+    let mut count = Count::default();
+    for (h, _) in Records::of(out) {
+        count.messages += usize::from(h.kind == Kind::MESSAGE);
+        count.bytes += h.size as usize;
     }
-    Count {
-        messages: messages,
-        bytes: bytes,
-    }
+    count
 }
 
 // A refused call sends, writes and draws nothing.
@@ -75,10 +43,8 @@ fn no_price(code: u32) -> Price
     ensures { result ≡ no_price code }
 {
     Price {
-        code: code,
-        messages: 0,
-        bytes: 0,
-        draws: 0,
+        code,
+        ..Price::default()
     }
 }
 
@@ -87,10 +53,10 @@ pub fn preview(st: &[u64], radio: bool, b: &[u8], draws: &[u32]) -> Price
     ensures { result ≡ preview st.now (side_of radio) b.now draws.now }
 {
     if st.len() != Layout::LENGTH {
-        return no_price(Refusal::STATE);
+        return no_price(Refusal::State as u32);
     }
     let mut words = [0u64; Layout::LENGTH];
-    hyparview::copy_words(st, &mut words);
+    words.copy_from_slice(st);
     let mut out = [0u8; OUTPUT];
     let d = hyparview::handle_from(&mut words, radio, b, draws, &mut out);
     let code = d.code;
@@ -99,7 +65,7 @@ pub fn preview(st: &[u64], radio: bool, b: &[u8], draws: &[u32]) -> Price
     }
     let n = priced_records(&out);
     Price {
-        code: code,
+        code,
         messages: n.messages,
         bytes: n.bytes,
         draws: d.draws,

@@ -23,7 +23,7 @@ use Rattle.record.specs.InForm.{header_in, header_in_by, NodesInFormBy, InForm, 
 use Rattle.record.specs.declared.Header.{Header}
 use Rattle.record.specs.Answers.{answer}
 use Rattle.record.specs.declared.Entry.{Entry}
-use Rattle.record.specs.declared.Answer.TheVariants.{Record}
+use Rattle.std.specs.Prelude.{Some}
 use Rattle.record.proofs.Format.{length_entry, length_entries, length_header, length_encode_by}
 
 both_true : (a b : Bool) → a ≡ true → b ≡ true → (a && b) ≡ true
@@ -251,6 +251,6 @@ module _ (e : Rec) (f : InForm e) where
   rec_of_encode = rec_of_encode_by peer_length as_wide e f
 
   -- the one reader's answer to what was written
-  pub answer_encode : answer (encode e) ≡ Record (header_in e)
+  pub answer_encode : answer (encode e) ≡ Some (header_in e)
   unfolding answer
-  answer_encode = choose_yes _ _ _ well_formed_encode ∙ ap Record header_read
+  answer_encode = choose_yes _ _ _ well_formed_encode ∙ ap Some header_read

@@ -1,7 +1,7 @@
 -- The nodes of a record, one by one: what the reader may count on at each of them.
 -- Assumes nothing.
 use Prim.Native.Nat.{ℕ, zero, suc, ◌+◌, ◌*◌, ◌-◌, ◌≤◌, ◌<◌}
-use mathlib.Core.Path.{◌≡◌, refl, sym, ap, ◌∙◌, subst}
+use mathlib.Core.Path.{◌≡◌, refl, sym, ap, ◌∙◌}
 use mathlib.Core.Bool.{true, ◌&&◌}
 use mathlib.Core.List.{List}
 use mathlib.Core.Option.{none, some}
@@ -13,12 +13,12 @@ use lib.Dec.{leb, eqb}
 use borrow.Author.Tests.{eq-eqb, ne_eqb, le-leb}
 use Rattle.base_lists.specs.Lists.{choose}
 use Rattle.base_lists.proofs.Choice.{choose_yes, choose_no, and_left, and_right}
-use Rattle.base_peer.specs.Data.{Data, bytes_of}
-use Rattle.base_peer.specs.Held.{HoldsData, taken, node_in}
+use Rattle.base_peer.specs.Data.{bytes_of}
+use Rattle.base_peer.specs.Held.{data_in, taken, node_in}
 use Rattle.base_peer.specs.declared.PeerData.{PeerData}
+use Rattle.std.specs.Prelude.{Option, None}
 use Rattle.record.specs.Format.{peer_length, header_length, node_length, node_length_by, place_by, present}
-use Rattle.record.specs.Read.{header_of, header_of_by, entry_from, entry_at, entry_at_by, data_ok, id_ok, present_ok, entry_ok, entries_ok_by, well_formed, well_formed_by, data_at, node_at, node_at_by, nodes_of, nodes_of_by}
-use Rattle.record.specs.Answers.{HoldsNode}
+use Rattle.record.specs.Read.{header_of, header_of_by, entry_at, entry_at_by, data_ok, id_ok, present_ok, entry_ok, entries_ok_by, well_formed, well_formed_by, data_at, node_at, node_at_by, nodes_of, nodes_of_by}
 use Rattle.record.specs.declared.Header.{Header}
 use Rattle.record.specs.declared.Entry.{Entry}
 use Rattle.record.proofs.Laws.{entries_reach}
@@ -82,32 +82,25 @@ length_nodes_of b i (suc n) = ap suc (length_nodes_of b (suc i) n)
 
 -- ---- a node's data by value
 
-module _ (b : List ℕ) (e : Entry) (r : PeerData) where
-  pub absent_held : e.present ≡ 0 → HoldsData r none → HoldsData r (data_at b e)
-  unfolding data_at
-  absent_held z h = subst (λ (d : Data). HoldsData r d) (sym (choose_yes (eqb e.present 0) none (some (slice e.offset (e.offset + e.len) b)) (eq-eqb _ _ z))) h
+module _ (b : List ℕ) (e : Entry) where
+  pub absent_held : e.present ≡ 0 → data_in None ≡ data_at b e
+  unfolding data_at data_in
+  absent_held z = sym (choose_yes (eqb e.present 0) none (some (slice e.offset (e.offset + e.len) b)) (eq-eqb _ _ z))
 
-  pub present_held : (x : List ℕ) → (e.present ≡ 0 → ⊥) → e.offset + e.len ≤ length b → e.len ≤ 16 → x ≡ slice e.offset (e.offset + e.len) b → HoldsData r (taken x) → HoldsData r (data_at b e)
+  pub present_held : (r : Option PeerData) (x : List ℕ) → (e.present ≡ 0 → ⊥) → e.offset + e.len ≤ length b → e.len ≤ 16 → x ≡ slice e.offset (e.offset + e.len) b → data_in r ≡ taken x → data_in r ≡ data_at b e
   unfolding data_at taken
-  present_held x z w f q h =
+  present_held r x z w f q h =
       let s : List ℕ = slice e.offset (e.offset + e.len) b in
       let l : length s ≡ e.len = length-slice e.offset (e.offset + e.len) b w ∙ (let k : e.offset + e.len - e.offset ≡ e.len = omega arith in k) in
       let t : choose (leb (length s) 16) (some s) none ≡ some s = choose_yes (leb (length s) 16) (some s) none (le-leb (length s) 16 (omega arith)) in
       let d : data_at b e ≡ some s = choose_no (eqb e.present 0) none (some s) (ne_eqb _ _ z) in
-      subst (λ (x : Data). HoldsData r x) (ap taken q ∙ t ∙ sym d) h
+      h ∙ ap taken q ∙ t ∙ sym d
 
-pub node_held : (b : List ℕ) (i : ℕ) (e : Entry) (d : PeerData) → e ≡ entry_at b i → HoldsData d (data_at b e) → HoldsNode (record { id = e.id; «data» = d }) (node_at b i)
+pub node_held : (b : List ℕ) (i : ℕ) (e : Entry) (d : Option PeerData) → e ≡ entry_at b i → data_in d ≡ data_at b e → node_in (record { id = e.id; «data» = d }) ≡ node_at b i
 unfolding node_at_by node_in
-node_held b i e d q h = record {
-  valid = h.valid;
-  holds = λ j. record { id = (q j).id; data_of = (h.holds ∙ ap (data_at b) q) j };
-}
+node_held b i e d q h = λ j. record { id = (q j).id; data_of = (h ∙ ap (data_at b) q) j }
 
 -- ---- what the code asks of an entry that it read
-
-pub entry_read : (b : List ℕ) (i : ℕ) (e : Entry) → e ≡ entry_from peer_length b (header_length + node_length * i) → e ≡ entry_at b i
-unfolding entry_at_by
-entry_read b i e q = q
 
 module _ (b : List ℕ) (i : ℕ) (t : well_formed b ≡ true) (l : i < (header_of b).nodes) where
   pub entry_room : header_length + node_length * i + node_length ≤ length b

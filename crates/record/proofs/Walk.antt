@@ -1,6 +1,6 @@
 -- Laws of an output's records: where they end, the first of them, and those of bytes that were written.
 -- Assumes nothing.
-use Prim.Native.Nat.{ℕ, zero, suc, ◌-◌, ◌≤◌, ◌<◌}
+use Prim.Native.Nat.{ℕ, zero, suc, min, ◌-◌, ◌≤◌, ◌<◌}
 use mathlib.Core.Path.{◌≡◌, refl, sym, ap, ◌∙◌}
 use mathlib.Core.List.{List, [], ◌∷◌, ◌++◌}
 use native.Mathlib.Omega.{arith}
@@ -12,7 +12,9 @@ use Rattle.base_lists.specs.Bytes.{le, read_le}
 use Rattle.base_lists.proofs.Choice.{by_choice, split, choose_yes, choose_no}
 use Rattle.record.specs.Format.{Rec, header_length, size, size_by, header_by, encode, encode_by}
 use Rattle.record.specs.Read.{header_of, header_of_by}
-use Rattle.record.specs.Walk.{whole_length, records_from, records_in}
+use Rattle.std.proofs.Common.{map, fold}
+use Rattle.std.proofs.lemmas.List.{drop_min}
+use Rattle.record.specs.Walk.{whole_length, records_from, records_in, with_header, with_headers, walk}
 use Rattle.record.specs.declared.Header.{Header}
 use Rattle.record.proofs.Format.{length_encode}
 
@@ -109,3 +111,57 @@ zero_at (suc n) (suc i) = zero_at n i
 pub records_zeros : (n : ℕ) → records_in (replicate n 0) ≡ []
 unfolding whole_length header_of_by read_le
 records_zeros n = records_none (replicate n 0) (omega (arith, zero_at n 22, zero_at n 23))
+
+-- ---- each with its header, as `Records` hands them out
+
+nothing_seen : (b : List ℕ) → records_in b ≡ [] → with_headers b ≡ []
+unfolding with_headers
+nothing_seen b e = ap (map with_header) e
+
+pub seen_few : (b : List ℕ) → length b < header_length → with_headers b ≡ []
+seen_few b h = nothing_seen b (records_few b h)
+
+module _ (b : List ℕ) (h : Header) (is : h ≡ header_of b) where
+  pub seen_none : h.size ≡ 0 → with_headers b ≡ []
+  seen_none e = nothing_seen b (taken_none b h is e)
+
+  pub seen_next : header_length ≤ length b → (h.size ≡ 0 → ⊥) → (m : ℕ) → m ≡ min h.size (length b) → with_headers b ≡ (h, b) ∷ with_headers (take (length b - m) (drop m b))
+  unfolding with_headers
+  seen_next l e m k =
+      let t : take (length b - m) (drop m b) ≡ drop m b = take_all (length b - m) (drop m b) (simp length-drop (omega arith)) in
+      let d : drop m b ≡ drop h.size b = ap (λ (n : ℕ). drop n b) k ∙ drop_min h.size b in
+      ap (map with_header) (taken_one b h is l e) ∙ sym (λ i. (is i, b) ∷ map with_header (records_in ((t ∙ d) i)))
+
+-- what `fold` makes of them is what the walk makes of the records
+pub folded : {X : Type 0} (g : X → Header × List ℕ → X) (f : List ℕ → X → X) → ((b : List ℕ) (x : X) → g x (with_header b) ≡ f b x) → (out : List ℕ) (x : X)
+    → fold g x (with_headers out) ≡ walk f (records_in out) x
+unfolding with_headers walk
+folded {X} g f e out x = go (records_in out) x
+  where
+    go : (bs : List (List ℕ)) (y : X) → fold g y (map with_header bs) ≡ walk f bs y
+    go [] y = refl
+    go (b ∷ bs) y = ap (λ (z : X). fold g z (map with_header bs)) (e b y) ∙ go bs (f b y)
+
+seen_bytes : (bs : List (List ℕ)) → map (λ (p : Header × List ℕ). p.1) (map with_header bs) ≡ bs
+seen_bytes [] = refl
+seen_bytes (b ∷ bs) = ap (λ (l : List (List ℕ)). b ∷ l) (seen_bytes bs)
+
+-- the next that `Records` hands out: the first record of what was left, and its header
+module _ (a c : List ℕ) (h : Header) (b : List ℕ) (e : with_headers a ≡ (h, b) ∷ with_headers c) where
+  pub next_record : records_in a ≡ b ∷ records_in c
+  unfolding with_headers
+  next_record = sym (seen_bytes (records_in a)) ∙ ap (map (λ (p : Header × List ℕ). p.1)) e ∙ ap (λ (l : List (List ℕ)). b ∷ l) (seen_bytes (records_in c))
+
+  pub next_header : h ≡ header_of b
+  unfolding with_headers
+  next_header = go (records_in a) e
+    where
+      go : (bs : List (List ℕ)) → map with_header bs ≡ (h, b) ∷ with_headers c → h ≡ header_of b
+      go [] z = absurd (omega (arith, ap length z))
+      go (x ∷ xs) z =
+          let p : with_header x ≡ (h, b) = cc in
+          sym (ap (λ (y : Header × List ℕ). y.0) p) ∙ ap (λ (y : Header × List ℕ). header_of y.1) p
+
+pub no_record_left : (a : List ℕ) → with_headers a ≡ [] → records_in a ≡ []
+unfolding with_headers
+no_record_left a e = sym (seen_bytes (records_in a)) ∙ ap (map (λ (p : Header × List ℕ). p.1)) e

@@ -3,6 +3,7 @@
 use Rattle.std.specs.Prelude.{ℕ, zero, suc, List, [], ◌∷◌, map, length, get_or, drop, ltb, eqb}
 use Rattle.base_lists.specs.Lists.{choose}
 use Rattle.base_lists.specs.Bytes.{read_le}
+use Rattle.base_lists.specs.Lent.{Slice}
 use Rattle.record.specs.Format.{header_length, peer_length}
 use Rattle.record.specs.Read.{header_of}
 use Rattle.record.specs.declared.Header.{Header}
@@ -34,6 +35,17 @@ records_in out = records_from (length out) out
 -- their headers
 unfoldable pub headers : List ℕ → List Header
 headers out = map header_of (records_in out)
+
+-- each with its header
+abbrev pub with_header : List ℕ → Header × List ℕ
+with_header b = (header_of b, b)
+
+unfoldable pub with_headers : List ℕ → List (Header × List ℕ)
+with_headers out = map with_header (records_in out)
+
+-- a record as the code has it, whose bytes are lent
+abbrev pub record_seen : Header × Slice → Header × List ℕ
+record_seen p = (p.0, p.1.now)
 
 -- what x becomes when each record in order changes it by f
 unfoldable pub walk : {X : Type 0} → (List ℕ → X → X) → List (List ℕ) → X → X

@@ -3,14 +3,20 @@
 
 ghost use Rattle.std.specs.Prelude.{◌≡◌, true, ◌+◌, ◌*◌, ◌^◌, ◌≤◌, ◌<◌, length};
 ghost use Rattle.std.proofs.Math.Seq.{slice};
-ghost use Rattle.base_lists.specs.Lists.{choose};
 ghost use Rattle.base_lists.specs.Bytes.{read_le};
+ghost use Rattle.base_peer.specs.Held.{node_in};
 ghost use Rattle.record.specs.Kinds.{is_event_kind, is_output_kind};
-ghost use Rattle.record.specs.Format.{IsForm, header_length, header_length_by, node_length, node_length_by, place_by};
-ghost use Rattle.record.specs.Read.{fixed_size, header_of, header_of_by, entry_from, entry_at, entry_at_by, is_message, is_timer, is_data, header_ok, well_formed, well_formed_by, node_at};
-ghost use Rattle.record.specs.Answers.{answer, EventIs, HoldsNode};
+ghost use Rattle.record.specs.Format.{header_length, header_length_by, node_length, node_length_by, place_by};
+ghost use Rattle.record.specs.Forms.{form_width};
+ghost use Rattle.record.specs.Refusals.{refusal_code};
+ghost use Rattle.record.specs.Read.{fixed_size, header_of, header_of_by, entry_from, entry_at, entry_at_by, is_message, is_timer, is_data, kind_ok, flags_ok, count_ok, peer_ok, fields_ok, header_ok, entry_ok, well_formed, well_formed_by, node_at};
+ghost use Rattle.record.specs.Answers.{answer, EventIs};
 
 use base_peer::{PeerData, PeerId, PeerInfo};
+
+mod records;
+
+pub use records::Records;
 
 // The bytes of a peer's number, in this form and in the old one.
 pub const PEER: usize = 8;
@@ -74,7 +80,8 @@ pub struct Entry {
     pub present: u8,
 }
 
-// The kinds of a record, byte 0; those from NEIGHBOR_UP on stand in outputs alone.
+// The kinds of a record, byte 0; those from NEIGHBOR_UP on stand in outputs alone. They stay numbers: a byte that C reads may be any, and a match over so many
+// kinds is compiled to a table in read-only memory (02, S-4), which leaves comparisons.
 #[derive(Clone, Copy)]
 pub struct Kind {}
 
@@ -108,7 +115,7 @@ impl Kind {
     pub const PIN: u8 = 13;
 }
 
-// The messages, byte 1 of kind 0.
+// The messages, byte 1 of kind 0; numbers for the reasons of `Kind`.
 #[derive(Clone, Copy)]
 pub struct Message {}
 
@@ -126,7 +133,7 @@ impl Message {
     pub const DISCONNECT: u8 = 5;
 }
 
-// The flags, byte 2: the priority of a Neighbor; whether the sender of a Disconnect is alive, and whether it awaits an answer.
+// The flags, byte 2, each a bit: the priority of a Neighbor; whether the sender of a Disconnect is alive, and whether it awaits an answer.
 #[derive(Clone, Copy)]
 pub struct Flags {}
 
@@ -141,39 +148,57 @@ impl Flags {
     pub const BOTH: u8 = 3;
 }
 
-// The codes of refusals, by the condition that is met.
-#[derive(Clone, Copy)]
-pub struct Refusal {}
-
-impl Refusal {
-    pub const SETTINGS: u32 = 1;
-
-    pub const STATE: u32 = 2;
-
-    pub const MALFORMED: u32 = 3;
-
-    pub const NODES: u32 = 4;
-
-    pub const DRAWS: u32 = 5;
-
-    pub const REQUESTS: u32 = 6;
-
-    pub const REFUSED_PEERS: u32 = 7;
-
-    pub const DATA: u32 = 8;
-
-    pub const OUTPUT: u32 = 9;
-
-    pub const COUNTER: u32 = 10;
-
+// The refusals, by the condition that is met, in the order of their codes.
+#[derive(Clone, Copy, PartialEq, Eq)]
+pub enum Refusal {
+    Settings = 1,
+    State,
+    Malformed,
+    Nodes,
+    Draws,
+    Requests,
+    RefusedPeers,
+    Data,
+    Output,
+    Counter,
     // Of an event from the radio side (02, S-12).
-    pub const RADIO_NODES: u32 = 16;
+    RadioNodes,
+    PinStranger,
+    PinLimit,
+    NoOtherForm,
+}
 
-    pub const PIN_STRANGER: u32 = 17;
+impl From<Refusal> for u32 {
+    ghost from_gives = { λ r n. n ≡ refusal_code r };
 
-    pub const PIN_LIMIT: u32 = 18;
+    // The codes are 1 to 10 and 16 to 19. By a comparison, since variants with those numbers are compiled to a table in read-only memory (02, S-4).
+    fn from(r: Refusal) -> u32 {
+        let n = r as u32;
+        if n <= Refusal::Counter as u32 {
+            n
+        } else {
+            n + 5
+        }
+    }
+}
 
-    pub const NO_OTHER_FORM: u32 = 19;
+// The two forms of a record.
+#[derive(Clone, Copy, PartialEq, Eq)]
+pub enum Form {
+    Old,
+    This,
+}
+
+impl Form {
+    // The bytes of a peer's number.
+    pub fn width(self) -> usize
+        ensures { result ≡ form_width self }
+    {
+        match self {
+            Form::Old => OLD_PEER,
+            Form::This => PEER,
+        }
+    }
 }
 
 // The kinds of events, and those that stand in outputs alone. By comparisons, since a match over the kinds is compiled to a table in
@@ -190,7 +215,7 @@ fn is_output_kind(kind: u8) -> bool
     (Kind::NEIGHBOR_UP <= kind) & (kind <= Kind::EVICTED)
 }
 
-// The fixed size of a record by its kind byte; 0 where no kind has that number.
+// The fixed size of a record by its kind byte; 0 where no kind has that number, as document 02, S-8, has it.
 fn fixed_size(kind: u8) -> u8
     ensures { result ≡ fixed_size kind }
 {
@@ -210,20 +235,18 @@ pub fn read_number(b: &[u8], at: usize, k: usize) -> u64
     ensures { (result ≡ read_le k b.now at) × (result < 256 ^ k) }
 {
     let mut r: u64 = 0;
-    let mut i = k;
-    while 0 < i {
-        i -= 1;
-        r = b[at + i] as u64 + 256 * r;
+    for i in (at..at + k).rev() {
+        r = b[i] as u64 + 256 * r;
     }
     r
 }
 
-// The header's fields, as they stand, where a peer has w bytes.
-pub fn read_header_by(b: &[u8], w: usize) -> Header
-    requires form { IsForm w }
-    requires w_in_bounds { header_length_by w ≤ length b.now }
-    ensures { result ≡ header_of_by w b.now }
+// The header's fields, as they stand in a form.
+pub fn read_header_by(b: &[u8], form: Form) -> Header
+    requires { header_length_by (form_width form) ≤ length b.now }
+    ensures { result ≡ header_of_by (form_width form) b.now }
 {
+    let w = form.width();
     let ttl_from = PEER_FROM + 2 * w;
     Header {
         kind: b[0],
@@ -243,15 +266,15 @@ pub fn read_header(b: &[u8]) -> Header
     requires { header_length ≤ length b.now }
     ensures { result ≡ header_of b.now }
 {
-    read_header_by(b, PEER)
+    read_header_by(b, Form::This)
 }
 
-// The fields of the node entry at a place, as they stand, where a peer has w bytes.
-fn read_entry(b: &[u8], at: usize, w: usize) -> Entry
-    requires form { IsForm w }
-    requires w_in_bounds { at + node_length_by w ≤ length b.now }
-    ensures { result ≡ entry_from w b.now at }
+// The fields of the node entry at a place, as they stand in a form.
+fn read_entry(b: &[u8], at: usize, form: Form) -> Entry
+    requires { at + node_length_by (form_width form) ≤ length b.now }
+    ensures { result ≡ entry_from (form_width form) b.now at }
 {
+    let w = form.width();
     Entry {
         id: read_number(b, at, w),
         offset: read_number(b, at + w, SHORT) as u16,
@@ -261,22 +284,21 @@ fn read_entry(b: &[u8], at: usize, w: usize) -> Entry
 }
 
 // Where the i-th node entry stands; the data stand from the place of the entry after the last on.
-pub fn place(i: usize, w: usize) -> usize
-    requires form { IsForm w }
-    requires i_bound { i ≤ 255 }
-    ensures { (result ≡ place_by w i) × (result ≤ 3092) }
+pub fn place(i: usize, form: Form) -> usize
+    requires { i ≤ 255 }
+    ensures { (result ≡ place_by (form_width form) i) × (result ≤ 3092) }
 {
+    let w = form.width();
     16 + 2 * w + (4 + w) * i
 }
 
-// The i-th node entry's fields, where a peer has w bytes.
-pub fn node_by(b: &[u8], i: usize, w: usize) -> Entry
-    requires form { IsForm w }
+// The i-th node entry's fields, in a form.
+pub fn node_by(b: &[u8], i: usize, form: Form) -> Entry
     requires i_bound { i ≤ 255 }
-    requires w_in_bounds { place_by w i + node_length_by w ≤ length b.now }
-    ensures { result ≡ entry_at_by w b.now i }
+    requires in_bounds { place_by (form_width form) i + node_length_by (form_width form) ≤ length b.now }
+    ensures { result ≡ entry_at_by (form_width form) b.now i }
 {
-    read_entry(b, place(i, w), w)
+    read_entry(b, place(i, form), form)
 }
 
 // The i-th node entry's fields.
@@ -284,153 +306,175 @@ pub fn node(b: &[u8], i: usize) -> Entry
     requires { header_length + node_length * i + node_length ≤ length b.now }
     ensures { result ≡ entry_at b.now i }
 {
-    read_entry(b, HEADER + NODE * i, PEER)
+    read_entry(b, HEADER + NODE * i, Form::This)
 }
 
-// x where the test holds, else y.
-fn select(test: bool, x: bool, y: bool) -> bool
-    ensures { result ≡ choose test x y }
-{
-    if test { x } else { y }
-}
+impl Header {
+    // Message m of kind 0.
+    fn is_message(self, m: u8) -> bool
+        ensures { result ≡ is_message m self }
+    {
+        (self.kind == Kind::MESSAGE) & (self.message == m)
+    }
 
-// Message m of kind 0.
-fn is_message(m: u8, h: Header) -> bool
-    ensures { result ≡ is_message m h }
-{
-    (h.kind == Kind::MESSAGE) & (h.message == m)
-}
+    // DoShuffle, DoMaintenance, PendingNeighborRequest, RetryJoin.
+    fn is_timer(self) -> bool
+        ensures { result ≡ is_timer self }
+    {
+        (Kind::DO_SHUFFLE <= self.kind) & (self.kind <= Kind::RETRY_JOIN)
+    }
 
-// DoShuffle, DoMaintenance, PendingNeighborRequest, RetryJoin.
-fn is_timer(h: Header) -> bool
-    ensures { result ≡ is_timer h }
-{
-    (Kind::DO_SHUFFLE <= h.kind) & (h.kind <= Kind::RETRY_JOIN)
-}
+    // UpdatePeerData and peer data, whose one node has data.
+    fn is_data(self) -> bool
+        ensures { result ≡ is_data self }
+    {
+        (self.kind == Kind::UPDATE_PEER_DATA) | (self.kind == Kind::PEER_DATA)
+    }
 
-// UpdatePeerData and peer data, whose one node has data.
-fn is_data(h: Header) -> bool
-    ensures { result ≡ is_data h }
-{
-    (h.kind == Kind::UPDATE_PEER_DATA) | (h.kind == Kind::PEER_DATA)
-}
-
-// What the header alone must meet.
-fn header_ok(h: Header) -> bool
-    ensures { result ≡ header_ok h }
-{
     // A known kind, and a message only in kind 0.
-    let kind = !(fixed_size(h.kind) == 0)
-        & select(
-            h.kind == Kind::MESSAGE,
-            h.message <= Message::DISCONNECT,
-            h.message == 0,
-        );
+    fn kind_ok(self) -> bool
+        ensures { result ≡ kind_ok self }
+    {
+        let last = if self.kind == Kind::MESSAGE {
+            Message::DISCONNECT
+        } else {
+            0
+        };
+        (fixed_size(self.kind) != 0) & (self.message <= last)
+    }
+
     // Neighbor has one flag, Disconnect two.
-    let neighbor = is_message(Message::NEIGHBOR, h);
-    let disconnect = is_message(Message::DISCONNECT, h);
-    let other = select(disconnect, h.flags <= Flags::BOTH, h.flags == 0);
-    let flags = select(neighbor, h.flags <= Flags::HIGH, other);
-    let forward = is_message(Message::FORWARD_JOIN, h);
-    let shuffle = is_message(Message::SHUFFLE, h);
+    fn flags_ok(self) -> bool
+        ensures { result ≡ flags_ok self }
+    {
+        let most = if self.is_message(Message::NEIGHBOR) {
+            Flags::HIGH
+        } else if self.is_message(Message::DISCONNECT) {
+            Flags::BOTH
+        } else {
+            0
+        };
+        self.flags <= most
+    }
+
     // How many nodes the kind or message has: one, up to the most, or none.
-    let one = is_message(Message::JOIN, h) | (forward | (neighbor | is_data(h)));
-    let some = shuffle | is_message(Message::SHUFFLE_REPLY, h);
-    let most = select(some, h.nodes <= MOST_NODES, h.nodes == 0);
-    let count = select(one, h.nodes == 1, most);
+    fn count_ok(self) -> bool
+        ensures { result ≡ count_ok self }
+    {
+        let one = self.is_message(Message::JOIN)
+            | self.is_message(Message::FORWARD_JOIN)
+            | self.is_message(Message::NEIGHBOR)
+            | self.is_data();
+        let some = self.is_message(Message::SHUFFLE) | self.is_message(Message::SHUFFLE_REPLY);
+        if one {
+            self.nodes == 1
+        } else if some {
+            self.nodes <= MOST_NODES
+        } else {
+            self.nodes == 0
+        }
+    }
+
     // Peer is 0 in kinds 1, 2, 7, 8.
-    let no_peer = (h.kind == Kind::DO_SHUFFLE)
-        | ((h.kind == Kind::DO_MAINTENANCE)
-            | ((h.kind == Kind::UPDATE_PEER_DATA) | (h.kind == Kind::QUIT)));
-    let peer = !no_peer | (h.peer == 0);
+    fn peer_ok(self) -> bool
+        ensures { result ≡ peer_ok self }
+    {
+        let no_peer = (self.kind == Kind::DO_SHUFFLE)
+            | (self.kind == Kind::DO_MAINTENANCE)
+            | (self.kind == Kind::UPDATE_PEER_DATA)
+            | (self.kind == Kind::QUIT);
+        !no_peer | (self.peer == 0)
+    }
+
     // Fields not named for a kind are 0.
-    let second = (shuffle | is_timer(h)) | (h.second == 0);
-    let ttl = (forward | shuffle) | (h.ttl == 0);
-    let numbered = (h.kind == Kind::PENDING_NEIGHBOR_REQUEST) | (h.kind == Kind::RETRY_JOIN);
-    let number = numbered | (h.number == 0);
-    kind & (flags & (count & (peer & (second & (ttl & number)))))
+    fn fields_ok(self) -> bool
+        ensures { result ≡ fields_ok self }
+    {
+        let forward = self.is_message(Message::FORWARD_JOIN);
+        let shuffle = self.is_message(Message::SHUFFLE);
+        let numbered = (self.kind == Kind::PENDING_NEIGHBOR_REQUEST)
+            | (self.kind == Kind::RETRY_JOIN);
+        let second = shuffle | self.is_timer() | (self.second == 0);
+        let ttl = forward | shuffle | (self.ttl == 0);
+        let number = numbered | (self.number == 0);
+        second & ttl & number
+    }
+
+    // What the header alone must meet.
+    fn is_ok(self) -> bool
+        ensures { result ≡ header_ok self }
+    {
+        self.kind_ok() & self.flags_ok() & self.count_ok() & self.peer_ok() & self.fields_ok()
+    }
 }
 
-// The bytes are a record of the form where a peer has w bytes.
-pub fn well_formed(b: &[u8], w: usize) -> bool
-    requires { IsForm w }
-    ensures { result ≡ well_formed_by w b.now }
+// A node's entry in a record with header h, where the data have reached the place `at`.
+fn entry_ok(h: Header, e: Entry, at: usize) -> bool
+    ensures { result ≡ entry_ok h e at }
 {
-    if b.len() < place(0, w) {
+    // Absent data has offset and length 0; data present stand at the place reached.
+    let data = if e.present == 0 {
+        (e.offset == 0) & (e.len == 0)
+    } else {
+        (e.present == 1) & (e.offset as usize == at) & (e.len <= MOST_DATA)
+    };
+    let known = h.is_data();
+    let unnamed = h.is_message(Message::JOIN) | h.is_message(Message::NEIGHBOR) | known;
+    data & (!unnamed | (e.id == 0)) & (!known | (e.present == 1))
+}
+
+// The bytes are a record of the form.
+pub fn well_formed(b: &[u8], form: Form) -> bool
+    ensures { result ≡ well_formed_by (form_width form) b.now }
+{
+    if b.len() < place(0, form) {
         return false;
     }
-    let h = read_header_by(b, w);
-    let size = h.size as usize;
+    let h = read_header_by(b, form);
     let n = h.nodes as usize;
-    let mut at = place(n, w);
-    if header_ok(h) & ((size == b.len()) & (at <= b.len())) {
-        // Every entry is sound, and the data reach the whole length.
-        let known = is_data(h);
-        let unnamed = is_message(Message::JOIN, h) | (is_message(Message::NEIGHBOR, h) | known);
-        let mut i: usize = 0;
-        while i < n {
-            let e = read_entry(b, place(i, w), w);
-            // Absent data has offset and length 0; data present stand at the place reached.
-            let offset = e.offset as usize;
-            let data = select(
-                e.present == 0,
-                (e.offset == 0) & (e.len == 0),
-                (e.present == 1) & ((offset == at) & (e.len <= MOST_DATA)),
-            );
-            let id = !unnamed | (e.id == 0);
-            if data & (id & (!known | (e.present == 1))) {
-                at += e.len as usize;
-                i += 1;
-            } else {
-                return false;
-            }
-        }
-        return at == b.len();
+    let mut at = place(n, form);
+    if !(h.is_ok() & (h.size as usize == b.len()) & (at <= b.len())) {
+        return false;
     }
-    false
+    // Every entry is sound, and the data reach the whole length.
+    for i in 0..n {
+        let e = read_entry(b, place(i, form), form);
+        if !entry_ok(h, e, at) {
+            return false;
+        }
+        at += e.len as usize;
+    }
+    at == b.len()
 }
 
-// A record's header, or that the bytes are none.
-#[derive(Clone, Copy)]
-pub enum Answer {
-    Record(Header),
-    Malformed,
-}
-
-// The one reader for all kinds.
-pub fn read(b: &[u8]) -> Answer
+// The one reader for all kinds: a record's header, or `None` where the bytes are no record.
+pub fn read(b: &[u8]) -> Option<Header>
     ensures { result ≡ answer b.now }
 {
-    if well_formed(b, PEER) {
-        return Answer::Record(read_header(b));
+    if well_formed(b, Form::This) {
+        Some(read_header(b))
+    } else {
+        None
     }
-    Answer::Malformed
-}
-
-// An event's header, or the code of its refusal.
-#[derive(Clone, Copy)]
-pub enum Event {
-    Refused(u32),
-    Record(Header),
 }
 
 // The reading of an event, with the refusals in 01's order.
-pub fn read_event(b: &[u8]) -> Event
+pub fn read_event(b: &[u8]) -> Result<Header, Refusal>
     ensures { EventIs b.now result }
 {
     if b.len() < HEADER {
-        return Event::Refused(Refusal::MALFORMED);
+        return Err(Refusal::Malformed);
     }
     if MOST_NODES < b[3] {
-        return Event::Refused(Refusal::NODES);
+        return Err(Refusal::Nodes);
     }
     let h = read_header(b);
     // The kinds of outputs and a timer's nonzero delay are malformed as events.
-    let event = is_event_kind(h.kind) & (!is_timer(h) | (h.second == 0));
-    if well_formed(b, PEER) & event {
-        return Event::Record(h);
+    let event = is_event_kind(h.kind) & (!h.is_timer() | (h.second == 0));
+    if well_formed(b, Form::This) & event {
+        return Ok(h);
     }
-    Event::Refused(Refusal::MALFORMED)
+    Err(Refusal::Malformed)
 }
 
 // A node's data, as a part of the record's own bytes.
@@ -447,16 +491,16 @@ pub fn node_data<'a>(b: &'a [u8], e: Entry) -> &'a [u8]
 pub fn peer_info_at(b: &[u8], i: usize) -> PeerInfo
     requires b_value { well_formed b.now ≡ true }
     requires i_bound { i < (header_of b.now).nodes }
-    ensures { HoldsNode result (node_at b.now i) }
+    ensures { node_in result ≡ node_at b.now i }
 {
-    let e = read_entry(b, HEADER + NODE * i, PEER);
-    if e.present == 0 {
-        return PeerInfo {
-            id: e.id,
-            data: PeerData::absent(),
-        };
+    let e = node(b, i);
+    let held = if e.present == 0 {
+        None
+    } else {
+        PeerData::from_slice(node_data(b, e))
+    };
+    PeerInfo {
+        id: e.id,
+        data: held,
     }
-    let m = PeerData::from_slice(node_data(b, e));
-    let d = m.data;
-    PeerInfo { id: e.id, data: d }
 }

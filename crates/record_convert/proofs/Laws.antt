@@ -3,14 +3,17 @@
 use Prim.Native.Nat.{ℕ, zero, suc, ◌+◌, ◌*◌, ◌-◌, ◌^◌, ◌≤◌, ◌<◌}
 use mathlib.Core.Path.{◌≡◌, refl, sym, ap, ◌∙◌}
 use mathlib.Core.Bool.{Bool, true, false, not, ◌&&◌}
+use Rattle.std.proofs.Math.Bool.{and_assoc}
 use mathlib.Core.List.{List, [], ◌∷◌, ◌++◌}
 use mathlib.Core.Option.{none, some}
 use native.Mathlib.Nat.{not-suc-le-zero, le_of_suc-le-suc}
 use native.Mathlib.Omega.{arith}
 use borrow.Author.Tests.{lt-ltb, le-ltb, ltb-true, ltb-false, eqb-true, ne_eqb}
-use lib.ListN.{length, get_or, drop}
+use lib.ListN.{length, get_or, drop, replicate}
 use lib.Seq.{slice, length-slice, take-length}
 use lib.Dec.{ltb, eqb}
+use mir.Val.{Fits}
+use mir.Syntax.{w8}
 use Rattle.base_lists.specs.Lists.{choose}
 use Rattle.base_lists.specs.Array.{pad}
 use Rattle.base_lists.specs.Bytes.{le, overwrite}
@@ -21,6 +24,10 @@ use Rattle.base_lists.proofs.Bytes.{then, overwrite_is}
 use Rattle.base_peer.specs.Data.{bytes_of}
 use Rattle.record.specs.Format.{Rec, header_length_by, place_by, offset, entry_by, entries_by, datas, size_by, header_by, encode_by}
 use Rattle.record.specs.Read.{header_of_by, entry_at_by, well_formed_by, data_at, node_at_by, nodes_of_by, rec_of_by}
+use Rattle.std.specs.Prelude.{Ok, Err}
+use Rattle.record.specs.Refusals.{refusal_code}
+use Rattle.record.specs.declared.Refusal.{Refusal}
+use Rattle.record.specs.declared.Refusal.TheVariants.{Settings, State, Malformed, Nodes, Draws, Requests, RefusedPeers, Data, Output, Counter, RadioNodes, PinStranger, PinLimit, NoOtherForm}
 use Rattle.record.specs.declared.Header.{Header}
 use Rattle.record.specs.declared.Entry.{Entry}
 use Rattle.record.proofs.Format.{length_header, length_entries, length_encode_by}
@@ -29,6 +36,10 @@ use Rattle.record.proofs.Back.{parts, all_back}
 use Rattle.record.proofs.Forth.{count_most}
 use Rattle.record.proofs.Nodes.{EntryIn, entry_in}
 use Rattle.record_convert.specs.Convert.{kind_in_form, is_record, ids_fit, has_form, conversion_code, Conversion, outcome, converted, conversion, placed, outcome_of, tail_bytes, header_fields, entry_fields, moved_entry, resized}
+
+-- what the type says of lent bytes
+pub all_bytes : (b : List ℕ) → ((k : ℕ) → Fits w8 (get_or b k 0)) → Bytes b
+all_bytes b h k = omega (arith, h k)
 
 offset_by : (t : Bool) (x : List ℕ) (at : ℕ) → offset (choose t none (some x)) at ≡ choose t 0 at
 unfolding offset choose
@@ -128,30 +139,25 @@ module _ (v w : ℕ) (b : List ℕ) (i : is_record v b ≡ true) where
   unfolding conversion_code choose header_of_by
   answer_well r = rw (le-ltb (length b) (header_length_by v) (well_formed_long v b well), le-ltb 32 (get_or b 3 0) (few v b well), i)
 
-  module _ (ok : Bytes b) (h : Header) (q : h ≡ header_of_by v b) (size : ℕ) (s : size ≡ place_by w h.nodes + (length b - place_by v h.nodes)) where
-    sized : size ≡ size_by w (rec_of_by v b)
-    sized = size_is v w b well ok h q size s
+  -- the code's tests of a header, the ids and the whole length are the definition's
+  pub formed : (h : Header) → h ≡ header_of_by v b → (size : ℕ) → size ≡ size_by w (rec_of_by v b) → (f₀ f₁ f₂ f₃ : Bool) → f₀ ≡ kind_in_form w h.kind → f₁ ≡ ltb h.peer (256 ^ w) → f₂ ≡ ltb h.second (256 ^ w)
+      → f₃ ≡ ids_fit w (nodes_of_by v b 0 h.nodes) → has_form w (rec_of_by v b) ≡ (f₀ && f₁ && f₂ && f₃ && ltb size 65536)
+  unfolding has_form rec_of_by
+  formed h q size s f₀ f₁ f₂ f₃ p₀ p₁ p₂ p₃ = rw (p₀, p₁, p₂, p₃, s, q, and_assoc, and_assoc, and_assoc)
 
-    module _ (r : ℕ) (f₀ f₁ f₂ f₃ : Bool) (p₀ : f₀ ≡ kind_in_form w h.kind) (p₁ : f₁ ≡ ltb h.peer (256 ^ w)) (p₂ : f₂ ≡ ltb h.second (256 ^ w))
-        (p₃ : f₃ ≡ ids_fit w (nodes_of_by v b 0 h.nodes)) where
-      abbrev all : Bool
-      all = f₀ && (f₁ && (f₂ && (f₃ && ltb size 65536)))
+  module _ (r : ℕ) (f : Bool) (p : has_form w (rec_of_by v b) ≡ f) where
+    pub none_such : f ≡ false → 19 ≡ conversion_code v w b r
+    unfolding choose
+    none_such y = sym (answer_well r ∙ rw (p, y))
 
-      form_is : has_form w (rec_of_by v b) ≡ all
-      unfolding has_form rec_of_by
-      form_is = rw (p₀, p₁, p₂, p₃, sized, q)
-
-      pub full : all ≡ true → r < size → 9 ≡ conversion_code v w b r
+    module _ (size : ℕ) (s : size ≡ size_by w (rec_of_by v b)) (y : f ≡ true) where
+      pub full : r < size → 9 ≡ conversion_code v w b r
       unfolding choose
-      full y l = sym (answer_well r ∙ rw (form_is, y, lt-ltb r (size_by w (rec_of_by v b)) (omega (arith, sized))))
+      full l = sym (answer_well r ∙ rw (p, y, lt-ltb r (size_by w (rec_of_by v b)) (omega (arith, s))))
 
-      pub done : all ≡ true → size ≤ r → 0 ≡ conversion_code v w b r
+      pub done : size ≤ r → 0 ≡ conversion_code v w b r
       unfolding choose
-      done y l = sym (answer_well r ∙ rw (form_is, y, le-ltb r (size_by w (rec_of_by v b)) (omega (arith, sized))))
-
-      pub none_such : all ≡ false → 19 ≡ conversion_code v w b r
-      unfolding choose
-      none_such y = sym (answer_well r ∙ rw (form_is, y))
+      done l = sym (answer_well r ∙ rw (p, y, le-ltb r (size_by w (rec_of_by v b)) (omega (arith, s))))
 
 module _ (v w : ℕ) (b : List ℕ) (r at : ℕ) (e : at ≡ place_by v 0) where
   pub short_answer : length b < at → 3 ≡ conversion_code v w b r
@@ -207,6 +213,12 @@ size_small w e y =
 
 -- ---- bytes stored at the front of zeroes
 
+-- what `fill` leaves
+pub zeroes : (k : ℕ) → replicate {A = ℕ} k 0 ≡ pad 0 k []
+unfolding pad
+zeroes zero = refl
+zeroes (suc k) = ap (λ (l : List ℕ). 0 ∷ l) (zeroes k)
+
 pad_front : (n : ℕ) (bs : List ℕ) → length bs ≤ n → bs ++ drop (length bs) (pad 0 n []) ≡ pad 0 n bs
 unfolding pad
 pad_front zero [] h = refl
@@ -237,15 +249,32 @@ placed_zeroes v w b out r x q e =
     })
     ∙ ap (λ (o : List ℕ). record { code = conversion_code v w b r; written = length (converted v w b r); output = o }) (stored r (converted v w b r) (converted_fits v w b r))
 
-module _ (v w : ℕ) (b out : List ℕ) (code : ℕ) (p : code ≡ conversion_code v w b (length out)) where
-  pub refused_placed : (code ≡ 0 → ⊥) → outcome_of (record { code = code; written = 0 }) out ≡ placed v w b out
-  unfolding placed converted choose overwrite
-  refused_placed n = rw (← p, ne_eqb code 0 n)
+-- no refusal has the code 0
+pub refusal_some : (r : Refusal) → refusal_code r ≡ 0 → ⊥
+refusal_some Settings z = absurd (omega (arith, z))
+refusal_some State z = absurd (omega (arith, z))
+refusal_some Malformed z = absurd (omega (arith, z))
+refusal_some Nodes z = absurd (omega (arith, z))
+refusal_some Draws z = absurd (omega (arith, z))
+refusal_some Requests z = absurd (omega (arith, z))
+refusal_some RefusedPeers z = absurd (omega (arith, z))
+refusal_some Data z = absurd (omega (arith, z))
+refusal_some Output z = absurd (omega (arith, z))
+refusal_some Counter z = absurd (omega (arith, z))
+refusal_some RadioNodes z = absurd (omega (arith, z))
+refusal_some PinStranger z = absurd (omega (arith, z))
+refusal_some PinLimit z = absurd (omega (arith, z))
+refusal_some NoOtherForm z = absurd (omega (arith, z))
 
-  pub done_placed : (h : Header) (o : List ℕ) → code ≡ 0 → h ≡ resized (header_of_by v b) (size_by w (rec_of_by v b)) → o ≡ overwrite out 0 (encode_by w (rec_of_by v b))
-      → outcome_of (record { code = 0; written = h.size }) o ≡ placed v w b out
+module _ (v w : ℕ) (b out : List ℕ) where
+  pub refused_placed : (r : Refusal) → refusal_code r ≡ conversion_code v w b (length out) → outcome_of (Err r) out ≡ placed v w b out
+  unfolding placed converted choose overwrite
+  refused_placed r p = rw (← p, ne_eqb (refusal_code r) 0 (refusal_some r))
+
+  pub done_placed : (h : Header) (o : List ℕ) → 0 ≡ conversion_code v w b (length out) → h ≡ resized (header_of_by v b) (size_by w (rec_of_by v b)) → o ≡ overwrite out 0 (encode_by w (rec_of_by v b))
+      → outcome_of (Ok h.size) o ≡ placed v w b out
   unfolding placed converted choose
-  done_placed h o z d s =
-      let a : conversion_code v w b (length out) ≡ 0 = sym p ∙ z in
+  done_placed h o p d s =
+      let a : conversion_code v w b (length out) ≡ 0 = sym p in
       let n : h.size ≡ length (encode_by w (rec_of_by v b)) = ap (λ (y : Header). y.size) d ∙ sym (length_encode_by w (rec_of_by v b)) in
       rw (a, n, s)

@@ -18,8 +18,9 @@ use Rattle.base_lists.proofs.Array.{length_pad}
 use Rattle.base_lists.proofs.Choice.{by_choice, choose_yes, choose_no, split}
 use Rattle.record.specs.Format.{header_length_by}
 use Rattle.record.specs.Read.{header_of_by}
-use Rattle.record_convert.specs.Convert.{conversion_code, Conversion, outcome, converted, conversion, placed, outcome_of}
-use Rattle.record_convert.specs.Walk.{first_record, Walked, behind, stopped, converting, walked, outcomes, outcomes_of}
+use Rattle.std.specs.Prelude.{None}
+use Rattle.record_convert.specs.Convert.{conversion_code, Conversion, outcome, converted, conversion, placed}
+use Rattle.record_convert.specs.Walk.{first_record, Walked, behind, stopped, converting, walked, Outcomes, outcomes, outcomes_of}
 use Rattle.record.proofs.Laws.{well_formed_long}
 use Rattle.record_convert.proofs.Laws.{Accepted, accepted, converted_fits, placed_zeroes}
 
@@ -34,12 +35,6 @@ module _ (v : ℕ) (b : List ℕ) where
     pub first_long : first_record v b ≡ take (read_le 2 b (6 + 2 * v)) b
     unfolding first_record header_of_by
     first_long = choose_no _ _ _ (le-ltb (length b) (header_length_by v) l)
-
-    pub first_cut : length b < read_le 2 b (6 + 2 * v) → first_record v b ≡ b
-    first_cut k = first_long ∙ take_all (read_le 2 b (6 + 2 * v)) b (omega arith)
-
-    pub first_whole : read_le 2 b (6 + 2 * v) ≤ length b → length (first_record v b) ≡ read_le 2 b (6 + 2 * v)
-    first_whole k = ap length first_long ∙ length-take-le (read_le 2 b (6 + 2 * v)) b k
 
 -- the part of b that the code cuts
 part_again : (s : ℕ) (b : List ℕ) → take (length (take s b)) b ≡ take s b
@@ -155,18 +150,22 @@ module _ (v w : ℕ) (b : List ℕ) (room : ℕ) (out : List ℕ) (from to : ℕ
       let e : from ≡ length b = omega (arith, u.low) in
       ap (λ (c : List ℕ). converting v w n c (room - to)) (ap (λ (k : ℕ). drop k b) e ∙ drop-length b) ∙ walk_end v w n (room - to)
 
-  stops : (code : ℕ) → converting v w u.left (drop from b) (room - to) ≡ stopped code → outcomes_of (record { code = code; taken = from; written = to }) (pad 0 room u.done) ≡ outcomes (walked v w b room) room
+  -- what the code hands back where it stops, with the output
+  abbrev handed : ℕ → List ℕ → Outcomes
+  handed code o = record { code = code; taken = from; written = to; output = o }
+
+  stops : (code : ℕ) → converting v w u.left (drop from b) (room - to) ≡ stopped code → handed code (pad 0 room u.done) ≡ outcomes (walked v w b room) room
   unfolding outcomes behind
   stops code e =
       let q : walked v w b room ≡ behind from u.done (stopped code) = u.same ∙ ap (behind from u.done) e in
       let n : from + 0 ≡ from = omega arith in
       sym (ap (λ (x : Walked). outcomes x room) q ∙ rw (append-nil u.done, n, u.long))
 
-  pub walking_end : length b ≤ from → outcomes_of (record { code = 0; taken = from; written = to }) out ≡ outcomes (walked v w b room) room
-  walking_end l = ap (λ (o : List ℕ). outcomes_of (record { code = 0; taken = from; written = to }) o) u.is ∙ stops 0 (at_end u.left l)
+  pub walking_end : length b ≤ from → outcomes_of (record { refused = None; taken = from; written = to }) out ≡ outcomes (walked v w b room) room
+  walking_end l = ap (λ (o : List ℕ). handed 0 o) u.is ∙ stops 0 (at_end u.left l)
 
   module _ (more : from < length b) (k : ℕ) (ke : k ≡ length (first_record v (take (length b - from) (drop from b)))) (code written : ℕ) (part : List ℕ)
-      (x : outcome_of (record { code = code; written = written }) part ≡ placed v w (take (from + k - from) (drop from b)) (take (length out - to) (drop to out))) where
+      (x : ◌≡◌ {A = Conversion} (record { code = code; written = written; output = part }) (placed v w (take (from + k - from) (drop from b)) (take (length out - to) (drop to out)))) where
     abbrev c : List ℕ
     c = drop from b
 
@@ -181,7 +180,7 @@ module _ (v w : ℕ) (b : List ℕ) (room : ℕ) (out : List ℕ) (from to : ℕ
         let e : from + k - from ≡ length (first_record v c) = omega (arith, ke, ap (λ (l : List ℕ). length (first_record v l)) all) in
         ap (λ (n : ℕ). take n c) e ∙ first_part v c
 
-    result : outcome_of (record { code = code; written = written }) part ≡ conversion v w (first_record v c) r
+    result : ◌≡◌ {A = Conversion} (record { code = code; written = written; output = part }) (conversion v w (first_record v c) r)
     result = placed_zeroes v w (first_record v c) _ r _ (lent room to u.done out u.long u.top u.is) (x ∙ ap (λ (f : List ℕ). placed v w f (take (length out - to) (drop to out))) one)
 
     abbrev bs : List ℕ
@@ -212,12 +211,12 @@ module _ (v w : ℕ) (b : List ℕ) (room : ℕ) (out : List ℕ) (from to : ℕ
     one_left : u.left ≡ suc (u.left - 1)
     one_left = omega (arith, u.enough)
 
-    pub walking_stop : (code ≡ 0 → ⊥) → outcomes_of (record { code = code; taken = from; written = to }) (put_mid to (length out - to) out part) ≡ outcomes (walked v w b room) room
+    pub walking_stop : (code ≡ 0 → ⊥) → handed code (put_mid to (length out - to) out part) ≡ outcomes (walked v w b room) room
     unfolding converted
     walking_stop n =
         let none : bs ≡ [] = choose_no _ _ _ (ne_eqb (conversion_code v w (first_record v c) r) 0 (λ z. n (code_is ∙ z))) in
         let o : put_mid to (length out - to) out part ≡ pad 0 room u.done = lent_back room to u.done out u.long u.top u.is part [] (part_is ∙ ap (pad 0 r) none) ∙ ap (pad 0 room) (append-nil u.done) in
-        ap (λ (l : List ℕ). outcomes_of (record { code = code; taken = from; written = to }) l) o
+        ap (λ (l : List ℕ). handed code l) o
         ∙ stops code (ap (λ (m : ℕ). converting v w m c r) one_left ∙ walk_stop v w (u.left - 1) c r some (λ z. n (code_is ∙ z)) ∙ ap stopped (sym code_is))
 
     module _ (z : code ≡ 0) where

@@ -1,6 +1,6 @@
 -- Document 02, S-8: a record of one form as a record of the other. v is the bytes of a peer where it is read, w where it is written.
 -- Assumes nothing.
-use Rattle.std.specs.Prelude.{ℕ, ◌^◌, ◌≡◌, Bool, false, not, ◌&&◌, ◌||◌, List, [], ◌∷◌, ◌++◌, length, get_or, take, leb, ltb, eqb}
+use Rattle.std.specs.Prelude.{ℕ, ◌^◌, ◌≡◌, Bool, false, not, ◌&&◌, ◌||◌, List, [], ◌∷◌, ◌++◌, length, get_or, take, leb, ltb, eqb, Result, Ok, Err}
 use Rattle.base_lists.specs.Lists.{choose}
 use Rattle.base_lists.specs.Array.{pad}
 use Rattle.base_lists.specs.Bytes.{le, overwrite}
@@ -10,9 +10,10 @@ use Rattle.base_peer.specs.Data.{Node}
 use Rattle.record.specs.Format.{Rec, most_nodes, old_peer_length, header_length_by, place_by, entries_by, size_by, encode_by, four_bytes_end}
 use Rattle.record.specs.Kinds.{Pin, kind_byte}
 use Rattle.record.specs.Read.{well_formed_by, nodes_of_by, rec_of_by}
+use Rattle.record.specs.Refusals.{refusal_code}
 use Rattle.record.specs.declared.Header.{Header}
+use Rattle.record.specs.declared.Refusal.{Refusal}
 use Rattle.record.specs.declared.Entry.{Entry}
-use Rattle.record_convert.specs.declared.Converted.{Converted}
 
 -- S-14: kind 13 is "without an old form"
 unfoldable pub kind_in_form : ℕ → ℕ → Bool
@@ -41,6 +42,11 @@ conversion_code v w b room =
     (choose (not (has_form w (rec_of_by v b))) 19
     (choose (ltb room (size_by w (rec_of_by v b))) 9 0))))
 
+-- the code of the code's answer: 0 where it has the header to be written
+abbrev pub code_to : Result Header Refusal → ℕ
+code_to (Ok h) = 0
+code_to (Err r) = refusal_code r
+
 -- the answer, the bytes written, and the whole output
 pub record Conversion : Type 0 where
   pub code : ℕ
@@ -68,11 +74,12 @@ placed v w b out = record {
 }
 
 -- what the code hands back, and the output that it leaves
-abbrev pub outcome_of : Converted → List ℕ → Conversion
-outcome_of r out = record { code = r.code; written = r.written; output = out }
+abbrev pub outcome_of : Result ℕ Refusal → List ℕ → Conversion
+outcome_of (Ok n) out = record { code = 0; written = n; output = out }
+outcome_of (Err r) out = record { code = refusal_code r; written = 0; output = out }
 
 -- r and the output are the conversion of b, as a contract says it of the parameters
-abbrev pub Converts : ℕ → ℕ → Converted → Seen → Lent → Type 0
+abbrev pub Converts : ℕ → ℕ → Result ℕ Refusal → Seen → Lent → Type 0
 Converts v w r b out = outcome_of r out.exit.now ≡ conversion v w b.entry.now (length out.entry.now)
 
 -- the bytes that an outcome says were written

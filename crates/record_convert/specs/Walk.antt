@@ -1,11 +1,13 @@
 -- Document 02, S-8, over a whole file: nothing but records, without gaps, up to its end.
 -- Assumes nothing.
-use Rattle.std.specs.Prelude.{ℕ, zero, suc, ◌+◌, ◌-◌, ◌≡◌, List, [], ◌++◌, length, take, drop, ltb, eqb}
+use Rattle.std.specs.Prelude.{ℕ, zero, suc, ◌+◌, ◌-◌, ◌≡◌, List, [], ◌++◌, length, take, drop, ltb, eqb, Option, Some, None}
 use Rattle.base_lists.specs.Lists.{choose, null}
 use Rattle.base_lists.specs.Array.{pad}
 use Rattle.base_lists.specs.Lent.{Lent, Seen}
 use Rattle.record.specs.Format.{header_length_by}
 use Rattle.record.specs.Read.{header_of_by}
+use Rattle.record.specs.Refusals.{refusal_code}
+use Rattle.record.specs.declared.Refusal.{Refusal}
 use Rattle.record_convert.specs.Convert.{conversion_code, converted}
 use Rattle.record_convert.specs.declared.Progress.{Progress}
 
@@ -38,20 +40,24 @@ converting v w (suc n) b room =
 unfoldable pub walked : ℕ → ℕ → List ℕ → ℕ → Walked
 walked v w b room = converting v w (length b) b room
 
+-- the code of a refusal, 0 where there is none
+abbrev pub progress_code : Option Refusal → ℕ
+progress_code None = 0
+progress_code (Some r) = refusal_code r
+
 -- what the code hands back, and the output that it leaves
 pub record Outcomes : Type 0 where
-  pub progress : Progress
+  pub code : ℕ
+  pub taken : ℕ
+  pub written : ℕ
   pub output : List ℕ
 
 -- the bytes from place 0 on, and zeroes behind them
 unfoldable pub outcomes : Walked → ℕ → Outcomes
-outcomes x room = record {
-  progress = record { code = x.code; taken = x.taken; written = length x.bytes };
-  output = pad 0 room x.bytes;
-}
+outcomes x room = record { code = x.code; taken = x.taken; written = length x.bytes; output = pad 0 room x.bytes }
 
 abbrev pub outcomes_of : Progress → List ℕ → Outcomes
-outcomes_of r out = record { progress = r; output = out }
+outcomes_of r out = record { code = progress_code r.refused; taken = r.taken; written = r.written; output = out }
 
 -- r and the output are those of the records walked, as a contract says it of the parameters
 abbrev pub Walks : (List ℕ → ℕ → Walked) → Progress → Seen → Lent → Type 0

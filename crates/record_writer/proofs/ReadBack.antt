@@ -17,16 +17,14 @@ use Rattle.record.specs.Format.{Rec, size, encode}
 use Rattle.record.specs.Read.{decode}
 use Rattle.record.specs.InForm.{header_in, InForm}
 use Rattle.record.specs.Answers.{answer}
-use Rattle.record.specs.declared.Answer.TheVariants.{Record}
+use Rattle.std.specs.Prelude.{Option, Some, None}
 use Rattle.record.proofs.Format.{length_encode}
 use Rattle.record.proofs.Forth.{answer_encode}
 use Rattle.record.proofs.RoundTrip.{written_reads_back}
 use Rattle.record_writer.specs.Write.{fits, written, reached, Wrote}
-use Rattle.record_writer.specs.declared.Written.{Written}
-use Rattle.record_writer.specs.declared.Written.TheVariants.{At, Full}
 
-module _ (e : Rec) (at : ℕ) (out : List ℕ) (r : Written) (o : List ℕ) (k : ℕ) (w : Wrote e at out r o) (a : r ≡ At k) where
-  at_by : (t : Bool) → choose t (At (at + size e)) Full ≡ At k → (t ≡ true) × (at + size e ≡ k)
+module _ (e : Rec) (at : ℕ) (out : List ℕ) (r : Option ℕ) (o : List ℕ) (k : ℕ) (w : Wrote e at out r o) (a : r ≡ Some k) where
+  at_by : (t : Bool) → choose t (Some (at + size e)) None ≡ Some k → (t ≡ true) × (at + size e ≡ k)
   unfolding choose
   at_by true q = (refl, cc)
   at_by false q = absurd (let z : ◌≡◌ {A = ℕ} 0 1 = cc in omega arith)
@@ -53,7 +51,7 @@ module _ (e : Rec) (at : ℕ) (out : List ℕ) (r : Written) (o : List ℕ) (k :
 
   pub record ReadsBack : Type 0 where
     pub record_is : decode (slice at k o) ≡ some e
-    pub header_is : answer (slice at k o) ≡ Record (header_in e)
+    pub header_is : answer (slice at k o) ≡ Some (header_in e)
 
   pub wrote_reads_back : InForm e → ReadsBack
   wrote_reads_back f = record { record_is = rw part_written (written_reads_back e f); header_is = rw part_written (answer_encode e f) }

@@ -1,30 +1,25 @@
 -- Laws of what the writers do, in each of the ways through them.
 -- Assumes nothing.
-use Prim.Native.Nat.{ℕ, ◌+◌, ◌*◌, ◌-◌, ◌≤◌, ◌<◌}
+use Prim.Native.Nat.{ℕ, ◌+◌, ◌*◌, ◌≤◌, ◌<◌}
 use mathlib.Core.Path.{◌≡◌, refl, sym, ap, ◌∙◌}
 use mathlib.Core.Bool.{Bool, true, false}
 use mathlib.Core.List.{List, [], ◌∷◌, ◌++◌, append-nil}
 use native.Mathlib.Omega.{arith}
 use borrow.Author.Tests.{leb-true, le-leb, lt-leb}
-use lib.ListN.{length, take, length-map, length-append}
+use lib.ListN.{length, length-append}
 use lib.Dec.{leb}
-use lib.Seq.{length-take-le}
 use Rattle.base_lists.specs.Lists.{choose}
 use Rattle.base_lists.specs.Bytes.{le, overwrite}
 use Rattle.base_lists.proofs.Bytes.{then, length_le}
-use Rattle.base_peer.specs.Data.{Node, bytes_of}
-use Rattle.base_peer.specs.Held.{data_in, ValidData, node_in}
+use Rattle.base_peer.specs.Data.{Node}
+use Rattle.base_peer.specs.Held.{node_in}
 use Rattle.base_peer.specs.declared.PeerInfo.{PeerInfo}
-use Rattle.base_peer.proofs.Data.{bytes_in}
 use Rattle.record.specs.Format.{Rec, peer_length, header_length, node_length, entry, entries, entries_by, datas, size, size_by, header, header_by, encode, encode_by}
 use Rattle.record.proofs.Format.{length_entries, length_header}
-use Rattle.record_writer.specs.Nodes.{nodes_in, ValidNodes}
+use Rattle.std.specs.Prelude.{Option, Some, None}
 use Rattle.record_writer.specs.Write.{rec_in, header_bytes, fits, written, reached, Wrote, HeaderPut}
-use Rattle.record_writer.specs.declared.Nodes.{Nodes}
 use Rattle.record_writer.specs.declared.Fields.{Fields}
-use Rattle.record_writer.specs.declared.Written.{Written}
-use Rattle.record_writer.specs.declared.Written.TheVariants.{At, Full}
-use Rattle.record_writer.proofs.Laws.{long_items, length_in}
+use Rattle.record_writer.proofs.Laws.{data_of}
 
 module _ (e : Rec) (at : ℕ) (out : List ℕ) where
   -- header, entries and data, stored one after the other
@@ -59,33 +54,25 @@ header_put f n z at out o₁ o₂ o₃ o₄ o₅ o₆ e₆ e₅ e₄ e₃ e₂ e
 -- ---- the header of a record that fits, or not
 
 module _ (f : Fields) (n z at : ℕ) (out : List ℕ) where
-  pub headed_past : header_length ≤ z → length out < at → HeaderPut f n z at out Full out
+  pub headed_full : length out < at + z → HeaderPut f n z at out None out
   unfolding choose
-  headed_past k h = let q : leb (at + z) (length out) ≡ false = lt-leb (at + z) (length out) (omega arith) in record { answer = rw q; bytes = rw q }
+  headed_full h = let q : leb (at + z) (length out) ≡ false = lt-leb (at + z) (length out) h in record { answer = rw q; bytes = rw q }
 
-  pub headed_full : at ≤ length out → length out - at < z → HeaderPut f n z at out Full out
+  pub headed : at + z ≤ length out → (o : List ℕ) → o ≡ overwrite out at (header_bytes f n z) → HeaderPut f n z at out (Some (at + z)) o
   unfolding choose
-  headed_full k h = let q : leb (at + z) (length out) ≡ false = lt-leb (at + z) (length out) (omega arith) in record { answer = rw q; bytes = rw q }
+  headed h o e = let q : leb (at + z) (length out) ≡ true = le-leb (at + z) (length out) h in record { answer = rw q; bytes = e ∙ rw q }
 
-  pub headed : at ≤ length out → z ≤ length out - at → (o : List ℕ) → o ≡ overwrite out at (header_bytes f n z) → HeaderPut f n z at out (At (at + z)) o
-  unfolding choose
-  headed k h o e = let q : leb (at + z) (length out) ≡ true = le-leb (at + z) (length out) (omega arith) in record { answer = rw q; bytes = e ∙ rw q }
+abbrev answered : Option ℕ → Bool
+answered (Some x) = true
+answered None = false
 
-abbrev answered : Written → Bool
-answered (At x) = true
-answered Full = false
-
-fitted : (r : Written) (t : Bool) (x : ℕ) → r ≡ choose t (At x) Full → answered r ≡ t
+fitted : (r : Option ℕ) (t : Bool) (x : ℕ) → r ≡ choose t (Some x) None → answered r ≡ t
 unfolding choose
 fitted r true x e = ap answered e
 fitted r false x e = ap answered e
 
-pub length_nodes : (s : Nodes) → ValidNodes s → length (nodes_in s) ≡ s.len
-unfolding nodes_in
-length_nodes s v = length-map (take s.len s.items) node_in ∙ length-take-le s.len s.items (omega (arith, v.fits, long_items s v))
-
 -- a record of n nodes and z bytes, whose header was answered with r
-module _ (f : Fields) (ns : List Node) (n z at : ℕ) (out : List ℕ) (r : Written) (o : List ℕ) (p : n ≡ length ns) (k : z ≡ header_length + (node_length * n + length (datas ns))) (a : HeaderPut f n z at out r o) where
+module _ (f : Fields) (ns : List Node) (n z at : ℕ) (out : List ℕ) (r : Option ℕ) (o : List ℕ) (p : n ≡ length ns) (k : z ≡ header_length + (node_length * n + length (datas ns))) (a : HeaderPut f n z at out r o) where
   size_is : size (rec_in f ns) ≡ z
   unfolding size_by rec_in
   size_is = omega (arith, k, p)
@@ -97,13 +84,13 @@ module _ (f : Fields) (ns : List Node) (n z at : ℕ) (out : List ℕ) (r : Writ
   test_is : (b : Bool) → answered r ≡ b → leb (at + z) (length out) ≡ b
   test_is b e = sym (fitted r (leb (at + z) (length out)) (at + z) a.answer) ∙ e
 
-  pub no_room : r ≡ Full → Wrote (rec_in f ns) at out r o
+  pub no_room : r ≡ None → Wrote (rec_in f ns) at out r o
   unfolding written fits choose
   no_room e =
       let q : leb (at + z) (length out) ≡ false = test_is false (ap answered e) in
       record { answer = answer_is; bytes = a.bytes ∙ rw (size_is, q) }
 
-  pub room : (x : ℕ) → r ≡ At x → at + z ≤ length out
+  pub room : (x : ℕ) → r ≡ Some x → at + z ≤ length out
   room x e = leb-true _ _ (test_is true (ap answered e))
 
   header_is : header_bytes f n z ≡ header (rec_in f ns)
@@ -116,7 +103,7 @@ module _ (f : Fields) (ns : List Node) (n z at : ℕ) (out : List ℕ) (r : Writ
   unfolding choose
   header_stored q = a.bytes ∙ rw q (ap (overwrite out at) header_is)
 
-  pub done : (x : ℕ) → r ≡ At x → (o₃ : List ℕ) → o₃ ≡ overwrite (overwrite o (at + header_length) (entries ns (header_length + node_length * n))) (at + (header_length + node_length * n)) (datas ns)
+  pub done : (x : ℕ) → r ≡ Some x → (o₃ : List ℕ) → o₃ ≡ overwrite (overwrite o (at + header_length) (entries ns (header_length + node_length * n))) (at + (header_length + node_length * n)) (datas ns)
       → Wrote (rec_in f ns) at out r o₃
   unfolding written fits choose rec_in
   done x e o₃ w =
@@ -126,34 +113,34 @@ module _ (f : Fields) (ns : List Node) (n z at : ℕ) (out : List ℕ) (r : Writ
 
 -- ---- the records of no node and of one
 
-pub done_bare : (f : Fields) (at : ℕ) (out : List ℕ) (r : Written) (o : List ℕ) → HeaderPut f 0 header_length at out r o → Wrote (rec_in f []) at out r o
+pub done_bare : (f : Fields) (at : ℕ) (out : List ℕ) (r : Option ℕ) (o : List ℕ) → HeaderPut f 0 header_length at out r o → Wrote (rec_in f []) at out r o
 unfolding datas entries_by overwrite
 done_bare f at out r o a = go r refl where
-  go : (s : Written) → r ≡ s → Wrote (rec_in f []) at out r o
-  go (At x) e = done f [] 0 header_length at out r o refl refl a x e o refl
-  go Full e = no_room f [] 0 header_length at out r o refl refl a e
+  go : (s : Option ℕ) → r ≡ s → Wrote (rec_in f []) at out r o
+  go (Some x) e = done f [] 0 header_length at out r o refl refl a x e o refl
+  go None e = no_room f [] 0 header_length at out r o refl refl a e
 
 -- where the data of one node stand
 abbrev fixed : ℕ
 fixed = header_length + node_length
 
-module _ (f : Fields) (p : PeerInfo) (v : ValidData p.data) (at : ℕ) (out : List ℕ) (r : Written) (o : List ℕ) (a : HeaderPut f 1 (fixed + p.data.len) at out r o) where
+module _ (f : Fields) (p : PeerInfo) (m at : ℕ) (out : List ℕ) (r : Option ℕ) (o : List ℕ) (v : m ≡ length (data_of p)) (a : HeaderPut f 1 (fixed + m) at out r o) where
   abbrev one : List Node
   one = node_in p ∷ []
 
-  size_one : fixed + p.data.len ≡ header_length + (node_length * 1 + length (datas one))
+  size_one : fixed + m ≡ header_length + (node_length * 1 + length (datas one))
   unfolding datas node_in
-  size_one = omega (arith, length-append (bytes_of (data_in p.data)) [], length_in p.data v)
+  size_one = omega (arith, length-append (data_of p) [], v)
 
-  pub no_room_one : r ≡ Full → Wrote (rec_in f one) at out r o
-  no_room_one e = no_room f one 1 (fixed + p.data.len) at out r o refl size_one a e
+  pub no_room_one : r ≡ None → Wrote (rec_in f one) at out r o
+  no_room_one e = no_room f one 1 (fixed + m) at out r o refl size_one a e
 
-  pub room_one : (x : ℕ) → r ≡ At x → at + (fixed + p.data.len) ≤ length out
-  room_one x e = room f one 1 (fixed + p.data.len) at out r o refl size_one a x e
+  pub room_one : (x : ℕ) → r ≡ Some x → at + (fixed + length (data_of p)) ≤ length out
+  room_one x e = omega (arith, room f one 1 (fixed + m) at out r o refl size_one a x e, v)
 
-  pub done_one : (x : ℕ) → r ≡ At x → (o₃ : List ℕ) → o₃ ≡ overwrite (overwrite o (at + (header_length + node_length * 0)) (entry (node_in p) fixed)) (at + fixed) (take p.data.len p.data.bytes)
+  pub done_one : (x : ℕ) → r ≡ Some x → (o₃ : List ℕ) → o₃ ≡ overwrite (overwrite o (at + (header_length + node_length * 0)) (entry (node_in p) fixed)) (at + fixed) (data_of p)
       → Wrote (rec_in f one) at out r o₃
   unfolding datas entries_by node_in
   done_one x e o₃ s =
-      done f one 1 (fixed + p.data.len) at out r o refl size_one a x e o₃
-      (s ∙ rw (bytes_in p.data v, append-nil (take p.data.len p.data.bytes), append-nil (entry (node_in p) fixed)))
+      done f one 1 (fixed + m) at out r o refl size_one a x e o₃
+      (s ∙ rw (append-nil (data_of p), append-nil (entry (node_in p) fixed)))

@@ -16,8 +16,7 @@ use Rattle.base_lists.proofs.Choice.{by_choice, split, choose_yes, choose_no, an
 use Rattle.run_input.specs.Input.{head_length, most_bytes, event_offset, draw_count, draw_offset, number, numbers, event_length, are_events, places_ok, events_part, events_ok, input_head, input_of}
 pub use Rattle.run_input.specs.Input.{Laid}
 use Rattle.run_input.specs.declared.Head.{Head}
-use Rattle.run_input.specs.declared.Input.{Input}
-use Rattle.run_input.specs.declared.Input.TheVariants.{Refused, Whole}
+use Rattle.std.specs.Prelude.{Option, Some, None}
 
 module _ (b : List ℕ) (i : ℕ) where
   pub number_read : i < length b / 4 → number b i ≡ read_le 4 b (4 * i)
@@ -87,16 +86,16 @@ laid_of : (b : List ℕ) → places_ok b ≡ true → events_ok b ≡ true → L
 unfolding input_head events_ok events_part
 laid_of b p e = let at : Places b = places_true b p in record { low = at.low; full = at.full; most = at.most; events = e }
 
-whole_is : (x y : Head) → ◌≡◌ {A = Input} (Whole x) (Whole y) → x ≡ y
+whole_is : (x y : Head) → ◌≡◌ {A = Option Head} (Some x) (Some y) → x ≡ y
 whole_is x y e = cc
 
-pub laid : (b : List ℕ) (h : Head) → input_of b ≡ Whole h → Laid b h
+pub laid : (b : List ℕ) (h : Head) → input_of b ≡ Some h → Laid b h
 unfolding input_of
 laid b h e =
     let p : Bool = places_ok b in
     let q : Bool = events_ok b in
     split (p && q)
     (λ t.
-    let s : input_head b ≡ h = whole_is _ _ (sym (choose_yes (p && q) (Whole (input_head b)) Refused t) ∙ e) in
+    let s : input_head b ≡ h = whole_is _ _ (sym (choose_yes (p && q) (Some (input_head b)) None t) ∙ e) in
     subst (Laid b) s (laid_of b (and_left p q t) (and_right p q t)))
-    (λ f. let s : Refused ≡ Whole h = sym (choose_no (p && q) (Whole (input_head b)) Refused f) ∙ e in let z : ◌≡◌ {A = ℕ} 0 1 = cc in absurd (omega arith))
+    (λ f. let s : None ≡ Some h = sym (choose_no (p && q) (Some (input_head b)) None f) ∙ e in let z : ◌≡◌ {A = ℕ} 0 1 = cc in absurd (omega arith))

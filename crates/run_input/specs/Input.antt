@@ -1,7 +1,7 @@
 -- Document 01, "The run program": which bytes are an input, and what it says: self, settings, events, draws.
 -- A head of 15 numbers of 4 bytes (self in two halves by document 02, S-8, nine settings, event count, event offset, draw count, draw offset), events, draws, without gaps.
 -- Assumes nothing.
-use Rattle.std.specs.Prelude.{ℕ, zero, suc, ◌+◌, ◌*◌, ◌≤◌, ◌≡◌, Bool, true, not, ◌&&◌, List, [], ◌∷◌, length, take, drop, leb, eqb}
+use Rattle.std.specs.Prelude.{ℕ, zero, suc, ◌+◌, ◌*◌, ◌≤◌, ◌≡◌, Bool, true, not, ◌&&◌, List, [], ◌∷◌, length, get_or, take, drop, leb, eqb, Option, Some, None}
 use Rattle.std.proofs.Math.Seq.{slice}
 use Rattle.base_lists.specs.Lists.{choose, null}
 use Rattle.base_lists.specs.Bytes.{read_le}
@@ -9,8 +9,6 @@ use Rattle.record.specs.Format.{header_length, four_bytes_end}
 use Rattle.record.specs.Walk.{whole_length}
 use Rattle.base_timing.specs.declared.Config.{Config}
 use Rattle.run_input.specs.declared.Head.{Head}
-use Rattle.run_input.specs.declared.Input.{Input}
-use Rattle.run_input.specs.declared.Input.TheVariants.{Refused, Whole}
 
 -- "Input under 56 bytes or over 65,536" is refused, since S-8 under 60: the bytes of a head, and the most of an input
 abbrev pub head_length : ℕ
@@ -54,7 +52,25 @@ numbers (suc n) i b = number b i ∷ numbers n (suc i) b
 abbrev pub from_halves : ℕ → ℕ → ℕ
 from_halves low high = low + four_bytes_end * high
 
--- the nine settings, in `Config`'s order
+-- how many settings there are
+abbrev pub setting_count : ℕ
+setting_count = 9
+
+-- the settings of nine numbers, in `Config`'s order
+unfoldable pub settings_of : List ℕ → Config
+settings_of ns = record {
+  active_view_capacity = get_or ns 0 0;
+  passive_view_capacity = get_or ns 1 0;
+  active_random_walk_length = get_or ns 2 0;
+  passive_random_walk_length = get_or ns 3 0;
+  shuffle_random_walk_length = get_or ns 4 0;
+  shuffle_active_view_count = get_or ns 5 0;
+  shuffle_passive_view_count = get_or ns 6 0;
+  shuffle_interval = get_or ns 7 0;
+  neighbor_request_timeout = get_or ns 8 0;
+}
+
+-- the nine settings of an input, in that order
 unfoldable pub config_of : List ℕ → Config
 config_of b = record {
   active_view_capacity = number b first_setting;
@@ -108,8 +124,8 @@ input_head b = record {
 }
 
 -- what an input is: refused as a whole (`= 3 0`), or its head
-unfoldable pub input_of : List ℕ → Input
-input_of b = choose (places_ok b && events_ok b) (Whole (input_head b)) Refused
+unfoldable pub input_of : List ℕ → Option Head
+input_of b = choose (places_ok b && events_ok b) (Some (input_head b)) None
 
 -- what the head of an input that is not refused says of its places
 pub record Laid (b : List ℕ) (h : Head) : Type 0 where

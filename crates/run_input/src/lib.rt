@@ -2,7 +2,7 @@
 #![tactic(auto)]
 
 ghost use Rattle.std.specs.Prelude.{◌≡◌, ◌≤◌, length};
-ghost use Rattle.run_input.specs.Input.{number, numbers, from_halves, event_length, are_events, input_of};
+ghost use Rattle.run_input.specs.Input.{number, numbers, from_halves, setting_count, settings_of, event_length, are_events, input_of};
 
 use base_peer::PeerId;
 use base_timing::Config;
@@ -27,43 +27,8 @@ impl Head {
     // The bytes of a head, right after which the events stand.
     pub const BYTES: usize = 60;
 
-    // The places of its numbers, each of four bytes.
-    const SELF_LOW: usize = 0;
-
-    const SELF_HIGH: usize = 1;
-
-    const ACTIVE_VIEW_CAPACITY: usize = 2;
-
-    const PASSIVE_VIEW_CAPACITY: usize = 3;
-
-    const ACTIVE_RANDOM_WALK_LENGTH: usize = 4;
-
-    const PASSIVE_RANDOM_WALK_LENGTH: usize = 5;
-
-    const SHUFFLE_RANDOM_WALK_LENGTH: usize = 6;
-
-    const SHUFFLE_ACTIVE_VIEW_COUNT: usize = 7;
-
-    const SHUFFLE_PASSIVE_VIEW_COUNT: usize = 8;
-
-    const SHUFFLE_INTERVAL: usize = 9;
-
-    const NEIGHBOR_REQUEST_TIMEOUT: usize = 10;
-
-    const EVENT_COUNT: usize = 11;
-
-    const EVENT_OFFSET: usize = 12;
-
-    const DRAW_COUNT: usize = 13;
-
-    const DRAW_OFFSET: usize = 14;
-}
-
-// An input is refused as a whole, or has a head that fits it.
-#[derive(Clone, Copy)]
-pub enum Input {
-    Refused,
-    Whole(Head),
+    // How many numbers of four bytes they are.
+    const NUMBERS: usize = Self::BYTES / record::U32_BYTES;
 }
 
 // The i-th number of four bytes; 0 where there are not so many bytes.
@@ -80,10 +45,8 @@ pub fn number(b: &[u8], i: usize) -> u32
 pub fn read_numbers(b: &[u8], to: &mut [u32])
     ensures { to.new ≡ numbers (length to.old) 0 b.now }
 {
-    let mut i: usize = 0;
-    while i < to.len() {
-        to[i] = number(b, i);
-        i += 1;
+    for (i, x) in to.iter_mut().enumerate() {
+        *x = number(b, i);
     }
 }
 
@@ -91,10 +54,10 @@ pub fn read_numbers(b: &[u8], to: &mut [u32])
 pub fn from_halves(low: u32, high: u32) -> u64
     ensures { result ≡ from_halves low high }
 {
-    low as u64 + record::FOUR_BYTES_END * high as u64
+    u64::from(low) + record::FOUR_BYTES_END * u64::from(high)
 }
 
-// How long the event at the front is by its whole length; 0 where that is less than a header's or runs over the end.
+// How long the event at the front is by its whole length; 0 where that is less than a header's or runs over the end. 0 and no Option, since the run gives such an event to `handle` as no bytes.
 pub fn event_length(b: &[u8]) -> usize
     ensures { (result ≡ event_length b.now) × (result ≤ length b.now) }
 {
@@ -113,55 +76,62 @@ fn are_events(events: &[u8], count: usize) -> bool
     ensures { result ≡ are_events count events.now }
 {
     let mut rest = events;
-    let mut left = count;
-    while left > 0 {
+    for _ in 0..count {
         let size = event_length(rest);
         if size == 0 {
             return false;
         }
         rest = &rest[size..];
-        left -= 1;
     }
-    rest.len() == 0
+    rest.is_empty()
 }
 
-// The whole input: its head, or that it is refused.
-pub fn read_input(b: &[u8]) -> Input
+// The settings of the first nine numbers.
+pub fn settings_of(numbers: &[u32]) -> Config
+    requires { setting_count ≤ length numbers.now }
+    ensures { result ≡ settings_of numbers.now }
+{
+    Config {
+        active_view_capacity: numbers[0],
+        passive_view_capacity: numbers[1],
+        active_random_walk_length: numbers[2],
+        passive_random_walk_length: numbers[3],
+        shuffle_random_walk_length: numbers[4],
+        shuffle_active_view_count: numbers[5],
+        shuffle_passive_view_count: numbers[6],
+        shuffle_interval: numbers[7],
+        neighbor_request_timeout: numbers[8],
+    }
+}
+
+// The whole input: its head, or None where it is refused.
+pub fn read_input(b: &[u8]) -> Option<Head>
     ensures { result ≡ input_of b.now }
 {
+    let mut numbers = [0u32; Head::NUMBERS];
+    read_numbers(b, &mut numbers);
+    let [low, high, .., events, start, draws, draws_at] = numbers;
     let size = b.len();
-    let start = number(b, Head::EVENT_OFFSET) as usize;
-    let draws_at = number(b, Head::DRAW_OFFSET) as usize;
-    let draws = number(b, Head::DRAW_COUNT) as usize;
+    let draws = draws as usize;
+    let draws_at = draws_at as usize;
     // Whether the events are said to stand right after the head, and the draws to end the input.
-    if (Head::BYTES <= size)
+    let placed = (Head::BYTES <= size)
         & ((size <= MOST_BYTES)
-            & ((start == Head::BYTES)
-                & ((Head::BYTES <= draws_at) & (draws_at + record::U32_BYTES * draws == size))))
-    {
-        let events = number(b, Head::EVENT_COUNT) as usize;
-        if are_events(&b[Head::BYTES..draws_at], events) {
-            let config = Config {
-                active_view_capacity: number(b, Head::ACTIVE_VIEW_CAPACITY),
-                passive_view_capacity: number(b, Head::PASSIVE_VIEW_CAPACITY),
-                active_random_walk_length: number(b, Head::ACTIVE_RANDOM_WALK_LENGTH),
-                passive_random_walk_length: number(b, Head::PASSIVE_RANDOM_WALK_LENGTH),
-                shuffle_random_walk_length: number(b, Head::SHUFFLE_RANDOM_WALK_LENGTH),
-                shuffle_active_view_count: number(b, Head::SHUFFLE_ACTIVE_VIEW_COUNT),
-                shuffle_passive_view_count: number(b, Head::SHUFFLE_PASSIVE_VIEW_COUNT),
-                shuffle_interval: number(b, Head::SHUFFLE_INTERVAL),
-                neighbor_request_timeout: number(b, Head::NEIGHBOR_REQUEST_TIMEOUT),
-            };
-            let low = number(b, Head::SELF_LOW);
-            let high = number(b, Head::SELF_HIGH);
-            return Input::Whole(Head {
-                me: from_halves(low, high),
-                config: config,
-                events: events,
-                draws_at: draws_at,
-                draws: draws,
-            });
-        }
+            & ((start as usize == Head::BYTES)
+                & ((Head::BYTES <= draws_at) & (draws_at + record::U32_BYTES * draws == size))));
+    if !placed {
+        return None;
     }
-    Input::Refused
+    let events = events as usize;
+    if !are_events(&b[Head::BYTES..draws_at], events) {
+        return None;
+    }
+    Some(Head {
+        me: from_halves(low, high),
+        // They stand behind the two halves of self.
+        config: settings_of(&numbers[2..]),
+        events,
+        draws_at,
+        draws,
+    })
 }

@@ -15,7 +15,9 @@ use Rattle.record.specs.declared.Header.{Header}
 use Rattle.record.specs.Format.{header_length}
 use Rattle.record.specs.Read.{header_of}
 use Rattle.run_text.specs.declared.Text.{Text}
-use Rattle.run_text.specs.Text.{Puts, Begins}
+use denote.MutBor.{MutBor}
+use Rattle.std.specs.Prelude.{Some, None, Ok}
+use Rattle.run_text.specs.Text.{Prints, Begins}
 use Rattle.run_text.specs.Numbers.{digits_within, decimal, field}
 use Rattle.run_text.proofs.Written.{begun}
 use Rattle.run_text.specs.Lines.{four, record_line, end_line, event_text}
@@ -24,7 +26,6 @@ use Rattle.hyparview.specs.Room.{output_room}
 use Rattle.run_input.specs.declared.Head.{Head}
 use Rattle.run_input.specs.Input.{head_length, numbers, cut_events}
 use Rattle.run_walk.proofs.Draws.{counted}
-use Rattle.run_listing.specs.declared.Opened.TheVariants.{Events}
 use Rattle.run_listing.specs.Run.{events_text, laid_text, run_text}
 use Rattle.run_listing.specs.Place.{Fronts, Lines, first_line, first_size}
 use Rattle.run_listing.specs.Opened.{first_place, opened_run, rest_text}
@@ -67,26 +68,28 @@ end_few code draws =
 -- ---- lines at the front of lent bytes
 
 -- a text that fits stands at the front
-fronts : (w out₀ : List ℕ) (t₀ t : Text) (o : List ℕ) → length w ≤ length out₀ → Begins t₀ → Puts w t₀ out₀ t o → Fronts w out₀ t.at o
-fronts w out₀ t₀ t o l h k =
-    let s = k.puts [] out₀ (begun t₀ out₀ h) in
-    let long : length o ≡ length out₀ = ap length s.bytes ∙ length_overwrite out₀ 0 w in
-    let few : t.at ≤ length o = omega (arith, s.reached, l, long) in
-    record { size = omega (arith, s.reached, l); counts = (few, counted t.at o few); bytes = s.bytes }
+fronts : (w : List ℕ) (out : MutBor (List ℕ)) (t₀ t : Text) (o : List ℕ) → o ≡ t.out.now → length w ≤ length out.now → Begins out t₀ → Prints w t₀ t → Fronts w out.now t.at o
+fronts w out t₀ t o e l h k =
+    let s = k.puts [] out.now (begun h) in
+    let long : length t.out.now ≡ length out.now = ap length s.bytes ∙ length_overwrite out.now 0 w in
+    let few : t.at ≤ length o = omega (arith, s.reached, l, long, ap length e) in
+    record { size = omega (arith, s.reached, l); counts = (few, counted t.at o few); bytes = e ∙ s.bytes }
 
-pub end_fronts : (code draws : ℕ) (t r : Text) (out o : List ℕ) → 44 ≤ length out → Begins t → Puts (end_line code draws) t out r o → Fronts (end_line code draws) out r.at o
-end_fronts code draws t r out o l h k = let few = end_few code draws in fronts (end_line code draws) out t r o (omega (arith, few, l)) h k
+pub end_fronts : (code draws : ℕ) (t r : Text) (out : MutBor (List ℕ)) (o : List ℕ) → 44 ≤ length out.now → Begins out t → Prints (end_line code draws) t r → o ≡ r.out.now → Fronts (end_line code draws) out.now r.at o
+end_fronts code draws t r out o l h k e = let few = end_few code draws in fronts (end_line code draws) out t r o e (omega (arith, few, l)) h k
 
 -- no text leaves the bytes as they are
 empty_fronts : (w out : List ℕ) → w ≡ [] → Fronts w out 0 out
 unfolding overwrite
 empty_fronts w out e = record { size = ap length (sym e); counts = (omega arith, refl); bytes = ap (overwrite out 0) (sym e) }
 
-module _ (i : ℕ) (b out : List ℕ) where
+module _ (i : ℕ) (b : List ℕ) where
   -- too few bytes for a header
-  pub lines_few_bytes : length b < header_length → Lines i b out (record { size = 0; taken = 0 }) out
+  pub lines_few_bytes : (out : List ℕ) → length b < header_length → Lines i b out None out
   unfolding first_line first_size
-  lines_few_bytes l = let y = lt-ltb (length b) header_length l in record { line = empty_fronts _ out (choose_yes _ _ _ y); taken = sym (choose_yes _ _ _ y) }
+  lines_few_bytes out l =
+      let y = lt-ltb (length b) header_length l in
+      record { line = empty_fronts _ out (choose_yes _ _ _ y); taken = sym (choose_yes _ _ _ y); none = λ _. refl }
 
   module _ (h : Header) (is : h ≡ header_of b) (m : header_length ≤ length b) where
     size_is : h.size ≡ first_size b
@@ -94,25 +97,29 @@ module _ (i : ℕ) (b out : List ℕ) where
     size_is = ap (λ (x : Header). x.size) is ∙ sym (choose_no _ _ _ (le-ltb (length b) header_length m))
 
     -- the zeroes behind the last record
-    pub lines_none : h.size ≡ 0 → Lines i b out (record { size = 0; taken = 0 }) out
+    pub lines_none : (out : List ℕ) → h.size ≡ 0 → Lines i b out None out
     unfolding first_line
-    lines_none z =
+    lines_none out z =
         let e : (header_of b).size ≡ 0 = ap (λ (x : Header). x.size) (sym is) ∙ z in
-        record { line = empty_fronts _ out (choose_no _ _ _ (le-ltb (length b) header_length m) ∙ choose_yes _ _ _ (eq-eqb _ 0 e)); taken = sym z ∙ size_is }
+        record { line = empty_fronts _ out (choose_no _ _ _ (le-ltb (length b) header_length m) ∙ choose_yes _ _ _ (eq-eqb _ 0 e)); taken = sym z ∙ size_is; none = λ _. refl }
 
-    pub lines_one : (t r : Text) (o : List ℕ) → (h.size ≡ 0 → ⊥) → 168 ≤ length out → Begins t → Puts (record_line i h) t out r o
-        → Lines i b out (record { size = r.at; taken = h.size }) o
+    pub lines_one : (out : MutBor (List ℕ)) (t r : Text) (o : List ℕ) → (h.size ≡ 0 → ⊥) → 168 ≤ length out.now → Begins out t → Prints (record_line i h) t r → o ≡ r.out.now
+        → Lines i b out.now (Some (record { size = r.at; taken = h.size })) o
     unfolding first_line
-    lines_one t r o z l g k =
+    lines_one out t r o z l g k q =
         let few = line_few i h in
         let w : record_line i h ≡ first_line i b =
         ap (record_line i) is ∙ sym (choose_no _ _ _ (le-ltb (length b) header_length m) ∙ choose_no _ _ _ (ne_eqb _ 0 (λ e. z (ap (λ (x : Header). x.size) is ∙ e)))) in
-        record { line = subst (λ (x : List ℕ). Fronts x out r.at o) w (fronts (record_line i h) out t r o (omega (arith, few, l)) g k); taken = size_is }
+        record {
+          line = subst (λ (x : List ℕ). Fronts x out.now r.at o) w (fronts (record_line i h) out t r o q (omega (arith, few, l)) g k);
+          taken = size_is;
+          none = λ e. absurd (z (size_is ∙ e));
+        }
 
 -- ---- the events one after another
 
 -- an input with events prints what is left at their first place
-pub rest_first : (b : List ℕ) (head : Head) → opened_run b ≡ Events head
+pub rest_first : (b : List ℕ) (head : Head) → opened_run b ≡ Ok head
     → run_text b ≡ rest_text output_room (first_place head) 0 head.events (slice head_length head.draws_at b) (numbers head.draws 0 (drop head.draws_at b))
 unfolding rest_text laid_text first_place
 rest_first b head e =

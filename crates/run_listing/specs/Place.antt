@@ -1,6 +1,6 @@
 -- What the functions over a run say of the place that they reach, and of the lent bytes.
 -- Assumes nothing.
-use Rattle.std.specs.Prelude.{ℕ, ◌≡◌, List, [], length, leb, ltb, eqb}
+use Rattle.std.specs.Prelude.{ℕ, ◌≡◌, List, [], length, leb, ltb, eqb, Option, Some, None}
 use Rattle.io.specs.Counts.{IsPrefixLen}
 use Rattle.base_lists.specs.Lists.{choose}
 use Rattle.base_lists.specs.Bytes.{overwrite}
@@ -8,8 +8,6 @@ use Rattle.record.specs.Format.{header_length}
 use Rattle.record.specs.Read.{header_of}
 use Rattle.run_text.specs.Lines.{record_line}
 use Rattle.run_listing.specs.declared.Lined.{Lined}
-use Rattle.run_listing.specs.declared.Shown.{Shown}
-use Rattle.run_listing.specs.declared.Shown.TheVariants.{Bytes, TooShort}
 
 -- bytes that suffice for the line that ends an event, and for the line of a record, with twenty digits for each number
 abbrev pub end_line_space : ℕ
@@ -32,11 +30,21 @@ first_line i b = choose (ltb (length b) header_length) [] (choose (eqb (header_o
 unfoldable pub first_size : List ℕ → ℕ
 first_size b = choose (ltb (length b) header_length) 0 (header_of b).size
 
--- r has the sizes of that line, which stands at the front of o, and of its record
-pub record Lines (i : ℕ) (b out : List ℕ) (r : Lined) (o : List ℕ) : Type 0 where
-  pub line : Fronts (first_line i b) out r.size o
-  pub taken : r.taken ≡ first_size b
+-- the bytes of a line and of its record, and none where there is no line
+abbrev pub size_in : Option Lined → ℕ
+size_in None = 0
+size_in (Some l) = l.size
+
+abbrev pub taken_in : Option Lined → ℕ
+taken_in None = 0
+taken_in (Some l) = l.taken
+
+-- r has the sizes of that line, which stands at the front of o, and of its record, and is None just where no record stands there
+pub record Lines (i : ℕ) (b out : List ℕ) (r : Option Lined) (o : List ℕ) : Type 0 where
+  pub line : Fronts (first_line i b) out (size_in r) o
+  pub taken : taken_in r ≡ first_size b
+  pub none : first_size b ≡ 0 → r ≡ None
 
 -- what is answered of a text of n bytes where `room` bytes are lent
-unfoldable pub fitting : ℕ → ℕ → Shown
-fitting n room = choose (leb n room) (Bytes n) TooShort
+unfoldable pub fitting : ℕ → ℕ → Option ℕ
+fitting n room = choose (leb n room) (Some n) None

@@ -1,6 +1,6 @@
 -- Document 01, "The run program": the text of a run.
 -- Assumes nothing.
-use Rattle.std.specs.Prelude.{ℕ, ◌+◌, List, [], ◌∷◌, ◌++◌, drop, eqb}
+use Rattle.std.specs.Prelude.{ℕ, ◌+◌, List, [], ◌∷◌, ◌++◌, drop, eqb, Option, Some, None}
 use Rattle.std.proofs.Math.Option.{none}
 use Rattle.std.proofs.Math.Seq.{slice}
 use Rattle.base_lists.specs.Lists.{choose}
@@ -9,8 +9,6 @@ use Rattle.hyparview.specs.Room.{output_room}
 use Rattle.hyparview.specs.Made.{MadeWords, pack_made}
 use Rattle.hyparview.specs.Handled.{Outcome, handled}
 use Rattle.run_input.specs.declared.Head.{Head}
-use Rattle.run_input.specs.declared.Input.{Input}
-use Rattle.run_input.specs.declared.Input.TheVariants.{Refused, Whole}
 use Rattle.run_input.specs.Input.{head_length, numbers, cut_events, input_of}
 use Rattle.run_text.specs.Lines.{end_line, event_text}
 
@@ -33,9 +31,9 @@ unfoldable pub made_text : MadeWords → Head → List ℕ → List ℕ
 made_text m head b = choose (eqb m.code 0) (laid_text output_room m.words head b) (end_line 1 0)
 
 -- "whose events, so cut, or draws do not exactly fill their places .. prints only `= 3 0`"; "Own data is absent."
-unfoldable pub input_text : Input → List ℕ → List ℕ
-input_text Refused b = end_line 3 0
-input_text (Whole head) b = made_text (pack_made (new head.me none head.config)) head b
+unfoldable pub input_text : Option Head → List ℕ → List ℕ
+input_text None b = end_line 3 0
+input_text (Some head) b = made_text (pack_made (new head.me none head.config)) head b
 
 -- what the run program prints for the input b
 unfoldable pub run_text : List ℕ → List ℕ

@@ -8,33 +8,34 @@ use native.Mathlib.Omega.{arith}
 use lib.ListN.{length, take}
 use lib.Seq.{length-take-le}
 use Rattle.base_lists.specs.Bytes.{overwrite}
-use Rattle.run_text.specs.Text.{Puts, Begins, Shows}
+use denote.MutBor.{MutBor}
+use Rattle.run_text.specs.Text.{Prints, Begins, Shows}
 use Rattle.run_text.specs.Numbers.{field}
 use Rattle.run_text.specs.declared.Text.{Text}
 use Rattle.run_text.proofs.Written.{begun, then}
 use Rattle.endings.specs.declared.Ends.{Ends}
 use Rattle.run_stories.specs.Lines.{ends_line, ends_text}
 
-pub line_put : (a p n : ℕ) (t t₁ t₂ r : Text) (o o₁ o₂ o₃ : List ℕ) → Puts (field n 10) t₂ o₂ r o₃ → Puts (field p 32) t₁ o₁ t₂ o₂ → Puts (field a 32) t o t₁ o₁ → Puts (ends_line a p n) t o r o₃
+pub line_put : (a p n : ℕ) (t t₁ t₂ r : Text) → Prints (field n 10) t₂ r → Prints (field p 32) t₁ t₂ → Prints (field a 32) t t₁ → Prints (ends_line a p n) t r
 unfolding ends_line
-line_put a p n t t₁ t₂ r o o₁ o₂ o₃ k₃ k₂ k₁ = then (then k₃ k₂) k₁
+line_put a p n t t₁ t₂ r k₃ k₂ k₁ = then (then k₃ k₂) k₁
 
-pub ends_put : (c : Ends) (t t₁ t₂ t₃ r : Text) (o o₁ o₂ o₃ o₄ : List ℕ) → Puts (ends_line 1 1 c.both) t₃ o₃ r o₄ → Puts (ends_line 1 0 c.active) t₂ o₂ t₃ o₃
-    → Puts (ends_line 0 1 c.passive) t₁ o₁ t₂ o₂ → Puts (ends_line 0 0 c.neither) t o t₁ o₁ → Puts (ends_text c) t o r o₄
+pub ends_put : (c : Ends) (t t₁ t₂ t₃ r : Text) → Prints (ends_line 1 1 c.both) t₃ r → Prints (ends_line 1 0 c.active) t₂ t₃ → Prints (ends_line 0 1 c.passive) t₁ t₂ → Prints (ends_line 0 0 c.neither) t t₁
+    → Prints (ends_text c) t r
 unfolding ends_text
-ends_put c t t₁ t₂ t₃ r o o₁ o₂ o₃ o₄ k₄ k₃ k₂ k₁ = then (then (then k₄ k₃) k₂) k₁
+ends_put c t t₁ t₂ t₃ r k₄ k₃ k₂ k₁ = then (then (then k₄ k₃) k₂) k₁
 
-module _ (w : List ℕ) (t r : Text) (out o : List ℕ) (b : Begins t) (k : Puts w t out r o) where
-  shown : Shows w out r o
-  shown = k.puts [] out (begun t out b)
+module _ (w : List ℕ) (out : MutBor (List ℕ)) (t r : Text) (b : Begins out t) (k : Prints w t r) where
+  shown : Shows w out.now r
+  shown = k.puts [] out.now (begun b)
 
-  pub told : r.at ≡ min (length w) (length out)
+  pub told : r.at ≡ min (length w) (length out.now)
   told = shown.reached
 
-  pub told_inside : r.at ≤ length out
-  told_inside = rw shown.reached (min-le_right (length w) (length out))
+  pub told_inside : r.at ≤ length out.now
+  told_inside = rw shown.reached (min-le_right (length w) (length out.now))
 
-  pub bytes_told : o ≡ overwrite out 0 w
+  pub bytes_told : r.out.now ≡ overwrite out.now 0 w
   bytes_told = shown.bytes
 
 pub cut_length : (n : ℕ) (b : List ℕ) → n ≤ 64 → length b ≡ 64 → n ≡ length (take n b)

@@ -1,19 +1,20 @@
 -- Laws of the lines of an event.
 -- Assumes nothing.
-use Prim.Native.Nat.{ℕ, zero, suc, ◌+◌, ◌-◌, ◌≤◌, ◌<◌}
+use Prim.Native.Nat.{ℕ, zero, suc, ◌+◌, ◌≤◌, ◌<◌}
 use mathlib.Core.Path.{◌≡◌, refl, sym, ap, ◌∙◌}
 use mathlib.Core.List.{List, [], ◌∷◌, ◌++◌, append-nil, append_assoc, map}
 use native.Mathlib.Omega.{arith}
 use lib.ListN.{length, take, drop, get_or}
+use lib.Seq.{take_all}
 use Rattle.record.specs.declared.Header.{Header}
 use Rattle.record.specs.Format.{header_length}
 use Rattle.record.specs.Read.{header_of}
 use Rattle.record.specs.Walk.{records_in, headers}
-use Rattle.record.proofs.Walk.{records_few, taken_none, taken_one, taken_next, taken_last}
+use Rattle.record.proofs.Walk.{records_few, taken_none, taken_one}
 use Rattle.run_text.specs.declared.Text.{Text}
-use Rattle.run_text.specs.Text.{Puts}
+use Rattle.run_text.specs.Text.{Prints}
 use Rattle.run_text.specs.Numbers.{field}
-use Rattle.run_text.proofs.Written.{nothing, then, named, take_whole}
+use Rattle.run_text.proofs.Written.{nothing, then, named}
 use Rattle.run_text.specs.Lines.{space, newline, four, record_line, end_line, record_lines, event_text}
 
 -- ---- the line of a record: numbers, each with a space behind it, and the last
@@ -29,23 +30,12 @@ spaced_more (n ∷ ns) zero h = sym (append-nil (field n space))
 spaced_more (n ∷ ns) (suc k) h =
     append_assoc (field n space) (spaced (take k ns)) (field (get_or ns k 0) space) ∙ ap (λ (x : List ℕ). field n space ++ x) (spaced_more ns k (omega (arith, h)))
 
--- k of the numbers ns are written
-pub record Spacing (ns : List ℕ) (t : Text) (out : List ℕ) (r : Text) (o : List ℕ) (k : ℕ) : Type 0 where
-  pub within : k ≤ length ns
-  pub len : length o ≡ length out
-  pub so_far : Puts (spaced (take k ns)) t out r o
-
-pub spacing_start : (ns : List ℕ) (t : Text) (out : List ℕ) → Spacing ns t out t out 0
+pub spacing_start : (t : Text) → Prints (spaced []) t t
 unfolding spaced
-spacing_start ns t out = record { within = omega arith; len = refl; so_far = nothing }
+spacing_start t = nothing
 
-pub spacing_next : (ns : List ℕ) (t : Text) (out : List ℕ) (a : Text) (o₁ : List ℕ) (k : ℕ) → Spacing ns t out a o₁ k → (r : Text) (o : List ℕ) → k < length ns → Puts (field (get_or ns k 0) space) a o₁ r o → length o ≡ length o₁
-    → Spacing ns t out r o (k + 1)
-spacing_next ns t out a o₁ k v r o h p q = record {
-  within = omega (arith, h);
-  len = q ∙ v.len;
-  so_far = named (spaced_more ns k h ∙ (let e : suc k ≡ k + 1 = omega arith in ap (λ (j : ℕ). spaced (take j ns)) e)) (then p v.so_far);
-}
+pub spacing_next : (ns : List ℕ) (t a r : Text) (k : ℕ) → Prints (spaced (take k ns)) t a → k < length ns → Prints (field (get_or ns k 0) space) a r → Prints (spaced (take (k + 1) ns)) t r
+spacing_next ns t a r k v h p = let e : suc k ≡ k + 1 = omega arith in named (spaced_more ns k h ∙ ap (λ (j : ℕ). spaced (take j ns)) e) (then p v)
 
 module _ (i : ℕ) (h : Header) where
   abbrev pub numbers : List ℕ
@@ -55,16 +45,16 @@ module _ (i : ℕ) (h : Header) where
   unfolding spaced record_line four
   line_is = simp append_assoc
 
-  pub record_put : (t a r : Text) (o o₁ o₂ : List ℕ) (k : ℕ) → 7 ≤ k → Puts (field h.nodes newline) a o₁ r o₂ → Spacing numbers t o a o₁ k → Puts (record_line i h) t o r o₂
-  record_put t a r o o₁ o₂ k l p v = named (ap (λ (x : List ℕ). spaced x ++ field h.nodes newline) (take_whole numbers k (omega arith)) ∙ line_is) (then p v.so_far)
+  pub record_put : (t a r : Text) (k : ℕ) → 7 ≤ k → Prints (field h.nodes newline) a r → Prints (spaced (take k numbers)) t a → Prints (record_line i h) t r
+  record_put t a r k l p v = named (ap (λ (x : List ℕ). spaced x ++ field h.nodes newline) (take_all k numbers (omega arith)) ∙ line_is) (then p v)
 
-pub end_put : (code n : ℕ) (t a b c r : Text) (o o₁ o₂ o₃ o₄ : List ℕ) → Puts (field n 10) c o₃ r o₄ → Puts (field code 32) b o₂ c o₃ → Puts (32 ∷ []) a o₁ b o₂ → Puts (61 ∷ []) t o a o₁ → Puts (end_line code n) t o r o₄
+pub end_put : (code n : ℕ) (t a b c r : Text) → Prints (field n 10) c r → Prints (field code 32) b c → Prints (32 ∷ []) a b → Prints (61 ∷ []) t a → Prints (end_line code n) t r
 unfolding end_line
-end_put code n t a b c r o o₁ o₂ o₃ o₄ k₄ k₃ k₂ k₁ = then (then (then k₄ k₃) k₂) k₁
+end_put code n t a b c r k₄ k₃ k₂ k₁ = then (then (then k₄ k₃) k₂) k₁
 
-pub event_put : (i code n : ℕ) (b : List ℕ) (t a r : Text) (o o₁ o₂ : List ℕ) → Puts (end_line code n) a o₁ r o₂ → Puts (record_lines i (headers b)) t o a o₁ → Puts (event_text i code n b) t o r o₂
+pub event_put : (i code n : ℕ) (b : List ℕ) (t a r : Text) → Prints (end_line code n) a r → Prints (record_lines i (headers b)) t a → Prints (event_text i code n b) t r
 unfolding event_text
-event_put i code n b t a r o o₁ o₂ k₂ k₁ = then k₂ k₁
+event_put i code n b t a r k₂ k₁ = then k₂ k₁
 
 -- ---- the records of an output
 
@@ -89,42 +79,29 @@ module _ (i code draws : ℕ) (b : List ℕ) where
       text_by (b ∷ rest) (taken_one b (header_of b) refl h e) ∙ append_assoc (record_line i (header_of b)) (record_lines i (map header_of rest)) (end_line code draws)
 
 -- the lines of `rest` are to come, after what was written
-pub record Listing (i : ℕ) (whole : List ℕ) (t : Text) (out : List ℕ) (r : Text) (o : List ℕ) (rest : List ℕ) : Type 0 where
-  pub len : length o ≡ length out
+pub record Listing (i : ℕ) (whole : List ℕ) (t r : Text) (rest : List ℕ) : Type 0 where
   pub done : List ℕ
-  pub so_far : Puts done t out r o
+  pub so_far : Prints done t r
   pub same : whole ≡ done ++ record_lines i (headers rest)
 
-pub listing_start : (i : ℕ) (t : Text) (out b : List ℕ) → Listing i (record_lines i (headers b)) t out t out b
-listing_start i t out b = record { len = refl; done = []; so_far = nothing; same = refl }
+pub listing_start : (i : ℕ) (t : Text) (b : List ℕ) → Listing i (record_lines i (headers b)) t t b
+listing_start i t b = record { done = []; so_far = nothing; same = refl }
 
-module _ (i : ℕ) (whole : List ℕ) (t : Text) (out : List ℕ) (r : Text) (o : List ℕ) (b : List ℕ) (v : Listing i whole t out r o b) where
+module _ (i : ℕ) (whole : List ℕ) (t r : Text) (b : List ℕ) (v : Listing i whole t r b) where
   by_records : (bs : List (List ℕ)) → records_in b ≡ bs → whole ≡ v.done ++ record_lines i (map header_of bs)
   unfolding headers
   by_records bs e = v.same ∙ ap (λ (x : List (List ℕ)). v.done ++ record_lines i (map header_of x)) e
 
-  ends : records_in b ≡ [] → Puts whole t out r o
+  pub listing_end : records_in b ≡ [] → Prints whole t r
   unfolding record_lines
-  ends e = named (sym (by_records [] e ∙ append-nil v.done)) v.so_far
+  listing_end e = named (sym (by_records [] e ∙ append-nil v.done)) v.so_far
 
-  pub listing_few : length b < header_length → Puts whole t out r o
-  listing_few h = ends (records_few b h)
-
-  module _ (h : Header) (is : h ≡ header_of b) where
-    pub listing_none : h.size ≡ 0 → Puts whole t out r o
-    listing_none e = ends (taken_none b h is e)
-
-    module _ (s : Text) (p : List ℕ) (k : Puts (record_line i h) r o s p) (q : length p ≡ length o) (z : h.size ≡ 0 → ⊥) (m : header_length ≤ length b) where
-      goes_on : (bs : List (List ℕ)) → records_in b ≡ b ∷ bs → whole ≡ (v.done ++ record_line i h) ++ record_lines i (map header_of bs)
-      unfolding record_lines
-      goes_on bs e =
-          by_records (b ∷ bs) e ∙ (ap (λ (x : Header). v.done ++ (record_line i x ++ record_lines i (map header_of bs))) (sym is)
-          ∙ sym (append_assoc v.done (record_line i h) (record_lines i (map header_of bs))))
-
-      pub listing_next : Listing i whole t out s p (take (length b - h.size) (drop h.size b))
-      unfolding headers
-      listing_next = record { len = q ∙ v.len; done = v.done ++ record_line i h; so_far = then k v.so_far; same = goes_on _ (taken_next b h is m z) }
-
-      pub listing_last : length b < h.size → Puts whole t out s p
-      unfolding record_lines
-      listing_last l = named (sym (goes_on [] (taken_last b h is m z l) ∙ append-nil (v.done ++ record_line i h))) (then k v.so_far)
+  pub listing_next : (h : Header) (c more : List ℕ) (s : Text) → records_in b ≡ c ∷ records_in more → h ≡ header_of c → Prints (record_line i h) r s → Listing i whole t s more
+  unfolding record_lines headers
+  listing_next h c more s e is k = record {
+    done = v.done ++ record_line i h;
+    so_far = then k v.so_far;
+    same = by_records (c ∷ records_in more) e
+        ∙ (ap (λ (x : Header). v.done ++ (record_line i x ++ record_lines i (map header_of (records_in more)))) (sym is)
+        ∙ sym (append_assoc v.done (record_line i h) (record_lines i (map header_of (records_in more)))));
+  }

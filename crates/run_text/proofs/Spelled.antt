@@ -11,7 +11,7 @@ use borrow.Author.Tests.{lt-ltb, le-ltb, leb-true, leb-false}
 use Rattle.base_lists.proofs.Choice.{choose_yes, choose_no, split}
 use Rattle.io.specs.Digits.{hex_digit_ascii, last_digits, IsDigitCount}
 use Rattle.run_text.specs.declared.Text.{Text}
-use Rattle.run_text.specs.Text.{Puts}
+use Rattle.run_text.specs.Text.{Prints}
 use Rattle.run_text.specs.Numbers.{digits_within, decimal, field}
 use Rattle.run_text.proofs.Written.{then, named}
 
@@ -55,10 +55,10 @@ few n k l h =
     let big : 10 ^ 20 ≡ 100000000000000000000 = refl in
     absurd (omega (arith, l, p, q, big)))
 
-pub put_digits : (n k : ℕ) (all : List ℕ) (t r : Text) (out o : List ℕ) → n < 18446744073709551616 → IsDigitCount 10 1 n k → take k all ≡ last_digits 10 k n → Puts (take k all) t out r o → Puts (decimal n) t out r o
+pub put_digits : (n k : ℕ) (all : List ℕ) (t r : Text) → n < 18446744073709551616 → IsDigitCount 10 1 n k → take k all ≡ last_digits 10 k n → Prints (take k all) t r → Prints (decimal n) t r
 unfolding decimal
-put_digits n k all t r out o l f q p = named (q ∙ spelled k 20 n (few n k l f) f) p
+put_digits n k all t r l f q p = named (q ∙ spelled k 20 n (few n k l f) f) p
 
-pub put_after : (n x : ℕ) (t a r : Text) (out o₁ o : List ℕ) → Puts (x ∷ []) a o₁ r o → Puts (decimal n) t out a o₁ → Puts (field n x) t out r o
+pub put_after : (n x : ℕ) (t a r : Text) → Prints (x ∷ []) a r → Prints (decimal n) t a → Prints (field n x) t r
 unfolding field
-put_after n x t a r out o₁ o k₂ k₁ = then k₂ k₁
+put_after n x t a r k₂ k₁ = then k₂ k₁

@@ -1,8 +1,9 @@
 -- Laws of the place reached in a run.
 -- Assumes nothing.
-use Prim.Native.Nat.{ℕ, ◌+◌, ◌-◌, ◌≤◌, ◌<◌}
+use Prim.Native.Nat.{ℕ, min, ◌+◌, ◌-◌, ◌≤◌, ◌<◌}
 use mathlib.Core.Path.{◌≡◌, sym, ap, ◌∙◌}
 use mathlib.Core.List.{List}
+use native.Mathlib.Decide.{dec_lt}
 use native.Mathlib.Omega.{arith}
 use lib.ListN.{length, take, drop, length-drop, drop_of_length-le}
 use lib.Seq.{take_all, drop-drop, drop-length}
@@ -14,24 +15,17 @@ use Rattle.base_draws.proofs.Laws.{past_rest}
 use Rattle.run_walk.specs.declared.Runner.{Runner}
 use Rattle.run_walk.specs.Place.{Runs, met, passed}
 
--- the place that events are cut from: the one reached, and none past the end
-pub record From (events : List ℕ) (at from : ℕ) : Type 0 where
-  pub low : from ≤ length events
-  pub same : drop from events ≡ drop at events
+module _ (events : List ℕ) (at from : ℕ) (e : from ≡ min at (length events)) where
+  same : Dec (at < length events) → drop from events ≡ drop at events
+  same (yes h) = let q : from ≡ at = omega (arith, e, h) in ap (λ (x : ℕ). drop x events) q
+  same (no h) = let q : from ≡ length events = omega (arith, e) in ap (λ (x : ℕ). drop x events) q ∙ (drop-length events ∙ sym (drop_of_length-le events (omega arith)))
 
-module _ (events : List ℕ) (at from : ℕ) where
-  pub from_within : at < length events → from ≡ at → From events at from
-  from_within h e = record { low = omega (arith, h, e); same = ap (λ (x : ℕ). drop x events) e }
+  -- the rest as the code cuts it: from the place reached on, and nothing past the end
+  pub rest_is : take (length events - from) (drop from events) ≡ drop at events
+  rest_is = take_all (length events - from) (drop from events) (omega (arith, length-drop from events)) ∙ same (dec_lt at (length events))
 
-  pub from_past : length events ≤ at → from ≡ length events → From events at from
-  from_past h e = record { low = omega (arith, e); same = ap (λ (x : ℕ). drop x events) e ∙ (drop-length events ∙ sym (drop_of_length-le events h)) }
-
-  -- the rest as the code cuts it
-  pub rest_is : From events at from → take (length events - from) (drop from events) ≡ drop at events
-  rest_is f = take_all (length events - from) (drop from events) (omega (arith, length-drop from events)) ∙ f.same
-
-  pub size_left : (size : ℕ) → From events at from → size ≤ length (take (length events - from) (drop from events)) → size ≤ length events - at
-  size_left size f h = omega (arith, h, ap length (rest_is f), length-drop at events)
+  pub size_left : (size : ℕ) → size ≤ length (take (length events - from) (drop from events)) → size ≤ length events - at
+  size_left size h = omega (arith, h, ap length rest_is, length-drop at events)
 
 module _ (room : ℕ) (p : Runner) (events draws : List ℕ) where
   -- the call with the event cut out by its length

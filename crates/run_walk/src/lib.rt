@@ -25,25 +25,16 @@ pub struct Ran {
 pub fn step(p: Runner, events: &[u8], draws: &[u32], records: &mut [u8]) -> Ran
     ensures { Steps p events draws result records }
 {
-    let s = p.state;
-    let at = p.at;
-    let used = p.used;
     // The events from the place on, and none past the end.
-    let end = events.len();
-    let from = if at < end { at } else { end };
-    let rest = &events[from..];
+    let rest = &events[p.at.min(events.len())..];
     let size = run_input::event_length(rest);
-    let after = at + size;
-    let event = &rest[..size];
-    let left = base_draws::rest_from(draws, used);
-    let a = s.handle(event, left, records);
-    let next = a.state;
-    let reached = base_draws::place_after(draws, used, a.draws);
+    let left = base_draws::rest_from(draws, p.used);
+    let a = p.state.handle(&rest[..size], left, records);
     Ran {
         runner: Runner {
-            state: next,
-            at: after,
-            used: reached,
+            state: a.state,
+            at: p.at + size,
+            used: base_draws::place_after(draws, p.used, a.draws),
         },
         code: a.code,
         draws: a.draws,

@@ -10,7 +10,7 @@ use base_timing::{Config, Timing};
 
 // Both ends, in milliseconds; both 0 where there is no such time.
 #[repr(C)]
-#[derive(Clone, Copy)]
+#[derive(Clone, Copy, Default)]
 pub struct ShuffleTimes {
     pub earliest: u64,
     pub latest: u64,
@@ -68,12 +68,10 @@ fn ends(earliest: u64, latest: u64, top: u32, k: u32) -> ShuffleTimes
     let mut low = earliest;
     let mut high = latest;
     let mut interval = initial_interval(top);
-    let mut left = k;
-    while left > 0 {
+    for _ in 0..k {
         low += least_delay(interval);
         high += most_delay(interval);
         interval = next_interval(top, interval);
-        left -= 1;
     }
     ShuffleTimes {
         earliest: low,
@@ -99,8 +97,5 @@ pub fn hyparview_shuffle_times(earliest: u64, latest: u64, config: Config, k: u3
     if has_times(earliest, latest, config, k) {
         return ends(earliest, latest, config.shuffle_interval, k);
     }
-    ShuffleTimes {
-        earliest: 0,
-        latest: 0,
-    }
+    ShuffleTimes::default()
 }

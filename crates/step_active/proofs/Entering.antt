@@ -1,5 +1,6 @@
 -- Laws of the steps by which a peer enters the active view.
 -- Assumes nothing.
+use Rattle.std.specs.Prelude as prelude
 use Prim.Native.Nat.{ℕ, ◌+◌, ◌≤◌, ◌<◌}
 use mathlib.Core.Path.{◌≡◌, refl, sym, ap, ◌∙◌, subst}
 use mathlib.Core.Bool.{Bool, true, false}
@@ -15,7 +16,7 @@ use Rattle.base_lists.specs.Lists.{renew}
 use Rattle.base_lists.proofs.Choice.{by_choice}
 use Rattle.base_peer.specs.declared.PeerData.{PeerData}
 use Rattle.base_peer.specs.Data.{Data, bytes_of}
-use Rattle.base_peer.specs.Held.{data_in, ValidData}
+use Rattle.base_peer.specs.Held.{data_in}
 use Rattle.base_peer.proofs.Data.{short_bytes}
 use Rattle.base_util.specs.Section.{items_at, HoldsSet}
 use Rattle.spec_hyparview.specs.Station.{Station, Refill, automatic, is_me, in_active, active_is_full, is_requested}
@@ -181,8 +182,8 @@ unfolding bytes_of Short
 short_by_length none h = tt
 short_by_length (some b) h = h
 
-pub informed : (w a : Work) (xs ys ds out o : List ℕ) (p : ℕ) (d : PeerData) → ValidData d → Calm 0 arriving 40 (run (work_of w xs) ds out) → Tells (insert_peer_info p (data_in d)) (work_of w xs) (work_of a ys) out o → Calm 0 freeing 40 (run (work_of a ys) ds o)
-informed w a xs ys ds out o p d v c k =
+pub informed : (w a : Work) (xs ys ds out o : List ℕ) (p : ℕ) (d : prelude.Option PeerData) → Calm 0 arriving 40 (run (work_of w xs) ds out) → Tells (insert_peer_info p (data_in d)) (work_of w xs) (work_of a ys) out o → Calm 0 freeing 40 (run (work_of a ys) ds o)
+informed w a xs ys ds out o p d c k =
     let q = c.fixed in
     let k₁ : Ok q (busy c.guest c.barred [] 0 0) (c.messages + 0) (c.bytes + freeing + single) (c.draws + 40) (run (work_of w xs) ds out) = ease (omega arith) (omega arith) (omega arith) c.ok in
     record {
@@ -194,5 +195,5 @@ informed w a xs ys ds out o p d v c k =
       draws = c.draws;
       ok =
           subst (Ok q (busy c.guest c.barred [] 0 0) (c.messages + 0) (c.bytes + freeing) (c.draws + 40)) (sym (k.same ds))
-          (ok_insert_peer_info p (data_in d) (λ z. short_by_length (data_in d) (short_bytes d v)) k₁);
+          (ok_insert_peer_info p (data_in d) (λ z. short_by_length (data_in d) (short_bytes d)) k₁);
     }

@@ -1,5 +1,6 @@
 -- Laws of the steps by which a peer leaves the active view.
 -- Assumes nothing.
+use Rattle.std.specs.Prelude as prelude
 use Prim.Native.Nat.{ℕ, ◌+◌, ◌≤◌, ◌<◌}
 use mathlib.Core.Path.{◌≡◌, refl, sym, ap, ◌∙◌, subst}
 use mathlib.Core.Bool.{Bool, true, false}
@@ -16,7 +17,7 @@ use Rattle.base_lists.proofs.Choice.{choose_yes}
 use Rattle.base_lists.proofs.Count.{index_lt, index_at, length_swap, length_remove}
 use Rattle.base_util.specs.Chances.{pick}
 use Rattle.base_peer.specs.declared.PeerData.{PeerData}
-use Rattle.base_peer.specs.Held.{data_in, HoldsData}
+use Rattle.base_peer.specs.Held.{data_in}
 use Rattle.base_util.specs.Section.{working_places, items_at, HoldsSet}
 use Rattle.base_util.proofs.Sets.{item_read}
 use Rattle.spec_hyparview.specs.Station.{Station, recovery, in_active, without_pin}
@@ -71,10 +72,10 @@ pub dropped : (w a r : Work) (xs ys out o : List ℕ) (i p : ℕ) → Room (work
 unfolding drop_active run_of
 dropped w a r xs ys out o i p v e k₂ k₁ = tell_then _ (λ ds. rw e) (told_at ys k₁.packed _ k₂) (telling v k₁)
 
-pub demoted : (w a : Work) (m : Added) (xs ys zs ds out o : List ℕ) (p : ℕ) (d : PeerData) (x : Option ℕ) → Fine (work_of w xs) ds out → HoldsData d (lookup p (unpack xs).peer_data)
+pub demoted : (w a : Work) (m : Added) (xs ys zs ds out o : List ℕ) (p : ℕ) (d : prelude.Option PeerData) (x : Option ℕ) → Fine (work_of w xs) ds out → data_in d ≡ lookup p (unpack xs).peer_data
     → Adds m zs ds o (add_passive p (data_in d) (run (work_of a ys) ds out)) x → Changes (on (drop_data p)) (work_of w xs) (work_of a ys) → Does (work_of m.work zs) ds o (demote p (run (work_of w xs) ds out))
 unfolding demote run_of
-demoted w a m xs ys zs ds out o p d x v h k₂ k₁ = seq_at (add_passive p) h.holds k₂.does (then k₁ (still v))
+demoted w a m xs ys zs ds out o p d x v h k₂ k₁ = seq_at (add_passive p) h k₂.does (then k₁ (still v))
 
 module _ (w a : Work) (xs ys ds out o : List ℕ) (p : ℕ) (alive : Bool) (k : Does (work_of a ys) ds o (demote p (run (work_of w xs) ds out))) where
   pub demoted_plain : alive ≡ false → Does (work_of a ys) ds o (choose alive (demote_alive p) (demote p) (run (work_of w xs) ds out))

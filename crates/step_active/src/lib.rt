@@ -3,7 +3,7 @@
 
 ghost use Rattle.std.specs.Prelude.{◌≡◌, true, ◌<◌, length, get_or};
 ghost use Rattle.base_lists.specs.Lists.{choose};
-ghost use Rattle.base_peer.specs.Held.{data_in, ValidData};
+ghost use Rattle.base_peer.specs.Held.{data_in};
 ghost use Rattle.spec_hyparview.specs.Run.{on};
 ghost use Rattle.spec_hyparview.specs.Budgets.{adding, leaving, freeing, arriving};
 ghost use Rattle.base_util.specs.Section.{working_places, working_words, HoldsSet};
@@ -11,14 +11,13 @@ ghost use Rattle.spec_hyparview.specs.Station.{without_pin};
 ghost use Rattle.spec_hyparview.specs.Active.{drop_pin, drop_active, demote, mark_alive, demote_alive, remove_active_by_index, remove_active, free_random_slot_in_active_view};
 ghost use Rattle.spec_hyparview.specs.Active.{move_in, add_active_unchecked, add_active};
 ghost use Rattle.spec_hyparview.specs.Events.{remove_neighbor};
-ghost use Rattle.hyparview_state.specs.Layout.{words};
 ghost use Rattle.hyparview_state.specs.Unpack.{unpack, PackedState, Becomes};
 ghost use Rattle.hyparview_state.specs.Work.{GivenRoom, Given, Meets, Alters, Says, Makes};
 ghost use Rattle.step_active.specs.Sane.{reason_in, FreeActive, FreeMark, Calm, Loose};
 
 use base_peer::{PeerData, PeerId};
 use base_timing::Timing;
-use hyparview_state::{Layout, RefillLimit};
+use hyparview_state::{Layout, RefillLimit, Words};
 use record::Kind;
 use work::Work;
 
@@ -32,8 +31,7 @@ pub enum Loss {
 // ---- peers that leave
 
 // 02, S-14: the pin of p, which is about to leave the active view, ends.
-fn drop_pin(st: &mut [u64], p: PeerId)
-    requires st_len { length st.old ≡ words }
+fn drop_pin(st: &mut Words, p: PeerId)
     requires packed_state { PackedState st.old }
     ensures { Becomes st.new (drop_pin p (unpack st.old)) }
 {
@@ -45,8 +43,7 @@ fn drop_pin(st: &mut [u64], p: PeerId)
 }
 
 // p leaves the active view, and its pin ends: for Quit.
-pub fn remove_neighbor(st: &mut [u64], p: PeerId)
-    requires st_len { length st.old ≡ words }
+pub fn remove_neighbor(st: &mut Words, p: PeerId)
     requires packed_state { PackedState st.old }
     ensures { Becomes st.new (remove_neighbor p (unpack st.old)) }
 {
@@ -59,8 +56,7 @@ pub fn remove_neighbor(st: &mut [u64], p: PeerId)
 }
 
 // p, the peer at place i, leaves with its notice, so that a listener's neighbors are always those of the view.
-fn drop_active(w: Work, st: &mut [u64], out: &mut [u8], i: usize, p: PeerId) -> Work
-    requires st_len { length st.old ≡ words }
+fn drop_active(w: Work, st: &mut Words, out: &mut [u8], i: usize, p: PeerId) -> Work
     requires given_room { GivenRoom w st out }
     requires i_in_bounds { i < length (unpack st.old).active }
     requires p_value { p ≡ get_or (unpack st.old).active i 0 }
@@ -79,8 +75,7 @@ fn drop_active(w: Work, st: &mut [u64], out: &mut [u8], i: usize, p: PeerId) -> 
 }
 
 // p disconnected but stays alive: the mark keeps it as a passive peer when its connection is closed next.
-pub fn mark_alive(w: Work, st: &mut [u64], p: PeerId) -> Work
-    requires st_len { length st.old ≡ words }
+pub fn mark_alive(w: Work, st: &mut Words, p: PeerId) -> Work
     requires packed_state { PackedState st.old }
     requires free_mark { FreeMark p w.code (unpack st.old) }
     ensures { Alters (on (mark_alive p)) w result st }
@@ -98,8 +93,7 @@ pub fn mark_alive(w: Work, st: &mut [u64], p: PeerId) -> Work
 
 // A neighbor that goes but stays on the topic is a spare peer, with a mark where `alive`; its data is taken out and put in again,
 // so it is told again, as in the Rust.
-fn demote(w: Work, st: &mut [u64], draws: &[u32], out: &mut [u8], p: PeerId, alive: bool) -> Work
-    requires st_len { length st.old ≡ words }
+fn demote(w: Work, st: &mut Words, draws: &[u32], out: &mut [u8], p: PeerId, alive: bool) -> Work
     requires given { Given w st draws out }
     requires meets { alive ≡ true → Meets (Loose p 0 adding 1) w st draws out }
     ensures { Makes (choose alive (demote_alive p) (demote p)) w result st draws out }
@@ -120,13 +114,12 @@ fn demote(w: Work, st: &mut [u64], draws: &[u32], out: &mut [u8], p: PeerId, ali
 // A neighbor that failed or left the topic is forgotten; one that only dropped the link stays as a passive peer.
 fn remove_active_by_index(
     w: Work,
-    st: &mut [u64],
+    st: &mut Words,
     draws: &[u32],
     out: &mut [u8],
     i: usize,
     why: Loss,
 ) -> Work
-    requires st_len { length st.old ≡ words }
     requires given { Given w st draws out }
     requires i_in_bounds { i < length (unpack st.old).active }
     requires meets { Meets (Calm 0 leaving 1) w st draws out }
@@ -139,33 +132,26 @@ fn remove_active_by_index(
     );
     let a = drop_active(w, st, out, i, p);
     match why {
-        Loss::ConnectionClosed => {
-            // An earlier mark keeps it as a passive peer.
-            if step_peers::is_marked(st, p) {
-                let b = step_peers::drop_mark(a, st, p);
-                return demote(b, st, draws, out, p, false);
-            }
-            step_peers::forget_peer(a, st, p)
+        // An earlier mark keeps it as a passive peer.
+        Loss::ConnectionClosed if step_peers::is_marked(st, p) => {
+            let b = step_peers::drop_mark(a, st, p);
+            demote(b, st, draws, out, p, false)
         }
-        Loss::DisconnectReceived(alive) => {
-            if alive {
-                return demote(a, st, draws, out, p, true);
-            }
-            step_peers::forget_peer(a, st, p)
-        }
+        Loss::ConnectionClosed => step_peers::forget_peer(a, st, p),
+        Loss::DisconnectReceived(true) => demote(a, st, draws, out, p, true),
+        Loss::DisconnectReceived(false) => step_peers::forget_peer(a, st, p),
     }
 }
 
 // A lost neighbor starts a recovery, which asks until somebody accepts: others may have lost the same one and have room.
 pub fn remove_active(
     w: Work,
-    st: &mut [u64],
+    st: &mut Words,
     draws: &[u32],
     out: &mut [u8],
     p: PeerId,
     why: Loss,
 ) -> Work
-    requires st_len { length st.old ≡ words }
     requires given { Given w st draws out }
     requires meets { Meets (Calm 0 leaving 1) w st draws out }
     ensures { Makes (remove_active p (reason_in why)) w result st draws out }
@@ -179,17 +165,14 @@ pub fn remove_active(
         let a = remove_active_by_index(w, st, draws, out, i, why);
         // Peers that refused may have room now, and the neighbor p is missing.
         let b = step_refill::clear_refused(a, st);
-        let skip = [p];
-        return step_refill::start_refill(b, st, draws, out, RefillLimit::Recovery, &skip);
+        return step_refill::start_refill(b, st, draws, out, RefillLimit::Recovery, &[p]);
     }
     w
 }
 
 // 02, S-14: the neighbors that may have to make room, as a working set.
-fn without_pin(st: &[u64], t: &mut [u64])
-    requires st_len { length st.now ≡ words }
+fn without_pin(st: &Words, t: &mut [u64; base_util::WORKING_WORDS])
     requires packed_state { PackedState st.now }
-    requires t_len { length t.old ≡ working_words }
     ensures { HoldsSet working_places t.new (without_pin (unpack st.now)) }
 {
     base_util::copy_into(
@@ -206,8 +189,7 @@ fn without_pin(st: &[u64], t: &mut [u64])
 }
 
 // High priority is never refused (the paper), so a random neighbor without a pin makes room; it is told, and stays as a passive peer.
-fn free_random_slot_in_active_view(w: Work, st: &mut [u64], draws: &[u32], out: &mut [u8]) -> Work
-    requires st_len { length st.old ≡ words }
+fn free_random_slot_in_active_view(w: Work, st: &mut Words, draws: &[u32], out: &mut [u8]) -> Work
     requires given { Given w st draws out }
     requires meets { Meets (Calm 0 freeing 40) w st draws out }
     ensures { Makes free_random_slot_in_active_view w result st draws out }
@@ -235,8 +217,7 @@ fn free_random_slot_in_active_view(w: Work, st: &mut [u64], draws: &[u32], out: 
 // ---- peers that enter
 
 // p leaves the passive view, with its mark, as no peer is in both; it is noted as recent for the day when both views are empty.
-fn move_in(w: Work, st: &mut [u64], p: PeerId) -> Work
-    requires st_len { length st.old ≡ words }
+fn move_in(w: Work, st: &mut Words, p: PeerId) -> Work
     requires packed_state { PackedState st.old }
     requires free_active { FreeActive w.code (unpack st.old) }
     ensures { Alters (on (move_in p)) w result st }
@@ -263,13 +244,12 @@ fn move_in(w: Work, st: &mut [u64], p: PeerId) -> Work
 // A gained neighbor ends the limit and the count of short passes, but not a recovery: one may not make up for all that were lost.
 fn add_active_unchecked(
     w: Work,
-    st: &mut [u64],
+    st: &mut Words,
     out: &mut [u8],
     p: PeerId,
     high: bool,
     reply: bool,
 ) -> Work
-    requires st_len { length st.old ≡ words }
     requires given_room { GivenRoom w st out }
     requires free_active { FreeActive w.code (unpack st.old) }
     ensures { Says (add_active_unchecked p high reply) w result st out }
@@ -291,17 +271,15 @@ fn add_active_unchecked(
 // A full view makes room for high priority, whose sender may have nobody else, and refuses low priority.
 pub fn add_active(
     w: Work,
-    st: &mut [u64],
+    st: &mut Words,
     draws: &[u32],
     out: &mut [u8],
     p: PeerId,
-    d: PeerData,
+    d: Option<PeerData>,
     high: bool,
     reply: bool,
 ) -> Work
-    requires st_len { length st.old ≡ words }
     requires given { Given w st draws out }
-    requires valid_data { ValidData d }
     requires meets { Meets (Calm 0 arriving 40) w st draws out }
     ensures { Makes (add_active p (data_in d) high reply) w result st draws out }
 {
@@ -312,13 +290,13 @@ pub fn add_active(
     if hyparview_state::in_active(st, p) {
         return step_sending::reply_neighbor(a, st, out, reply, p, high);
     }
-    // At a full view a peer of high priority takes the place of a random neighbor.
-    if hyparview_state::active_is_full(st) {
-        if high {
+    match (hyparview_state::active_is_full(st), high) {
+        (false, _) => add_active_unchecked(a, st, out, p, high, reply),
+        // At a full view a peer of high priority takes the place of a random neighbor.
+        (true, true) => {
             let b = free_random_slot_in_active_view(a, st, draws, out);
-            return add_active_unchecked(b, st, out, p, high, reply);
+            add_active_unchecked(b, st, out, p, high, reply)
         }
-        return a;
+        (true, false) => a,
     }
-    add_active_unchecked(a, st, out, p, high, reply)
 }

@@ -20,7 +20,6 @@ use Rattle.record.proofs.ByKind.{by_kind}
 use Rattle.record.specs.declared.Header.{Header}
 use Rattle.record.specs.Format.{header_length}
 use Rattle.record.specs.Read as R
-use Rattle.record.specs.Answers.{HoldsNode}
 use Rattle.spec_hyparview.specs.Run.{Run, on}
 use Rattle.spec_hyparview.specs.Messages.{on_join, on_forward_join, on_shuffle, on_shuffle_reply, on_neighbor, on_disconnect}
 use Rattle.spec_hyparview.specs.Timers.{handle_shuffle_timer, handle_maintenance_timer, handle_pending_neighbor_timer, retry_join}
@@ -90,9 +89,6 @@ module _ (b : List ℕ) (h : Header) (v : Headed b h) where
   unfolding R.rec_of_by
   nodes_are n e = ap (R.nodes_of b 0) (ap (λ (x : Header). x.nodes) (sym v.head) ∙ sym e)
 
-  pub count_is : (n : ℕ) → n ≡ h.nodes → n ≡ (R.header_of b).nodes
-  count_is n e = e ∙ ap (λ (x : Header). x.nodes) v.head
-
   is_message : (k : ℕ) → h.message ≡ k → eqb (R.rec_of b).message k ≡ true
   is_message k q = eq-eqb _ _ (message_of ∙ q)
 
@@ -160,13 +156,13 @@ module _ (b : List ℕ) (h : Header) (v : Headed b h) (g : Run) (r : Held) (ds o
       ∙ (choose_no _ _ _ (no_message b h v 3 (λ z. omega (arith, z, q))) ∙ (choose_no _ _ _ (no_message b h v 4 (λ z. omega (arith, z, q)))
       ∙ (λ i. on_disconnect (peer_of b h v i) ((ap (λ (y : ℕ). eqb (y % 2) 1) (flags_of b h v) ∙ sym e) i) g)))))) k
 
-module _ (b : List ℕ) (h : Header) (u : Single b h) (g : Run) (r : Held) (ds o : List ℕ) (n : PeerInfo) (x : HoldsNode n (R.node_at b 0)) where
+module _ (b : List ℕ) (h : Header) (u : Single b h) (g : Run) (r : Held) (ds o : List ℕ) (n : PeerInfo) (x : node_in n ≡ R.node_at b 0) where
   v : Headed b h
   v = u.headed
 
   first_is : first_node (R.rec_of b).nodes ≡ node_in n
   unfolding R.rec_of_by
-  first_is = first_of b (R.header_of b).nodes (single_some b h u) ∙ sym x.holds
+  first_is = first_of b (R.header_of b).nodes (single_some b h u) ∙ sym x
 
   data_is : first_data (R.rec_of b) ≡ data_in n.data
   unfolding first_data node_in
@@ -223,10 +219,10 @@ module _ (b : List ℕ) (h : Header) (v : Headed b h) (g : Run) (r : Held) (ds o
   unfolding dispatch choose
   kind_join q k = by _ (rw (same_kind RequestJoin q) (λ i. handle_join (peer_of b h v i) g)) k
 
-  pub kind_data : (n : PeerInfo) → HoldsNode n (R.node_at b 0) → h.kind ≡ kind_byte UpdatePeerData → Does r ds o (on (update_own_data (data_in n.data)) g) → Does r ds o (dispatch (R.rec_of b) g)
+  pub kind_data : (n : PeerInfo) → node_in n ≡ R.node_at b 0 → h.kind ≡ kind_byte UpdatePeerData → Does r ds o (on (update_own_data (data_in n.data)) g) → Does r ds o (dispatch (R.rec_of b) g)
   unfolding dispatch choose R.rec_of_by first_data node_in
   kind_data n x q k =
-      let e : first_node (R.nodes_of b 0 (R.header_of b).nodes) ≡ node_in n = first_of b (R.header_of b).nodes (omega (arith, one_node b h v q)) ∙ sym x.holds in
+      let e : first_node (R.nodes_of b 0 (R.header_of b).nodes) ≡ node_in n = first_of b (R.header_of b).nodes (omega (arith, one_node b h v q)) ∙ sym x in
       by _ (rw (same_kind UpdatePeerData q) (λ i. on (update_own_data (e i).data_of) g)) k
 
   pub kind_quit : kind_byte RetryJoin < h.kind → (h.kind ≡ kind_byte PeerDisconnected → ⊥) → (h.kind ≡ kind_byte RequestJoin → ⊥) → (h.kind ≡ kind_byte UpdatePeerData → ⊥) → h.kind ≤ kind_byte Quit

@@ -26,7 +26,7 @@ use Rattle.step_timers.proofs.Shuffles.{not_scheduled}
 use Rattle.base_util.specs.Section.{part}
 use borrow.Author.Tests.{eqb-true, eqb-false}
 use lib.Dec.{eqb}
-use lib.ListN.{length, set, length-set}
+use lib.ListN.{length, set}
 use mathlib.Core.Bool.{Bool, true, false, not, ◌&&◌}
 use mathlib.Core.List.{List}
 use mathlib.Core.Path.{◌≡◌, refl, sym, ◌∙◌, subst}
@@ -79,26 +79,23 @@ module _ (w : Work) (xs ds out : List ℕ) (v : Fine (work_of w xs) ds out) wher
 
 -- the work a with the words zs and the output o is what the first timers make of the work w with xs and out
 pub record Timed (w : Work) (xs ds out : List ℕ) (a : Work) (zs o : List ℕ) : Type 0 where
-  pub long : length zs ≡ layout.words
   pub room : length o ≡ length out
   pub does : Does (work_of a zs) ds o (first_timers (run (work_of w xs) ds out))
 
-module _ (w : Work) (xs ds out : List ℕ) (v : Fine (work_of w xs) ds out) (l : length xs ≡ layout.words) (a : Work) (zs o : List ℕ) where
+module _ (w : Work) (xs ds out : List ℕ) (v : Fine (work_of w xs) ds out) (a : Work) (zs o : List ℕ) where
   pub timed_rest : zs ≡ xs → o ≡ out → a ≡ w → (eqb w.code 0 && not (eqb (layout.timers_scheduled xs) 1)) ≡ false → Timed w xs ds out a zs o
   timed_rest p q s t =
       subst (λ (x : Work). Timed w xs ds out x zs o) (sym s) (subst (λ (x : List ℕ). Timed w xs ds out w x o) (sym p) (subst (λ (x : List ℕ). Timed w xs ds out w xs x) (sym q)
       (record {
-        long = l;
         room = refl;
         does = and_false (eqb w.code 0) _ t (λ z. timers_rest w xs ds out v (eqb-false _ _ z)) (λ z. timers_run w xs ds out v (is_yes _ z));
       })))
 
-  pub timed_start : (b r : Work) (ys o₁ o₂ : List ℕ) → zs ≡ ys → o ≡ o₂ → a ≡ r → (eqb w.code 0 && not (eqb (layout.timers_scheduled xs) 1)) ≡ true → length ys ≡ length (set xs layout.timers_scheduled_at 1) → length o₁ ≡ length out → length o₂ ≡ length o₁
+  pub timed_start : (b r : Work) (ys o₁ o₂ : List ℕ) → zs ≡ ys → o ≡ o₂ → a ≡ r → (eqb w.code 0 && not (eqb (layout.timers_scheduled xs) 1)) ≡ true → length o₁ ≡ length out → length o₂ ≡ length o₁
       → TellsAny (emit (timer (kind_byte DoMaintenance) 0 maintenance_interval 0)) b r o₁ o₂ → Does (work_of b ys) ds o₁ (schedule_shuffle (run (work_of w (set xs layout.timers_scheduled_at 1)) ds out)) → Timed w xs ds out a zs o
-  timed_start b r ys o₁ o₂ p q s t m n n₂ k₂ k₁ =
+  timed_start b r ys o₁ o₂ p q s t n n₂ k₂ k₁ =
       subst (λ (x : Work). Timed w xs ds out x zs o) (sym s) (subst (λ (x : List ℕ). Timed w xs ds out r x o) (sym p) (subst (λ (x : List ℕ). Timed w xs ds out r ys x) (sym q)
       (record {
-        long = m ∙ (length-set xs timers_scheduled_at 1 ∙ l);
         room = n₂ ∙ n;
         does = timers_start w xs ds out v b r ys o₁ o₂ (is_no _ (and_right (eqb w.code 0) _ t)) (eqb-true _ _ (and_left _ _ t)) k₂ k₁;
       })))

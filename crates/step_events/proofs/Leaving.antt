@@ -4,13 +4,9 @@ use Prim.Native.Nat.{ℕ, ◌+◌}
 use mathlib.Core.Path.{◌≡◌, refl, sym, ap, ◌∙◌, subst}
 use mathlib.Core.Bool.{Bool, true, false}
 use mathlib.Core.List.{List, [], ◌∷◌}
-use native.Mathlib.Omega.{arith}
 use lib.ListN.{length, take, drop}
 use lib.Dec.{ltb}
-use borrow.Rule.Slice.PartMut.{put_mid}
-use Rattle.base_lists.specs.Lists.{remove}
 use Rattle.base_lists.proofs.Choice.{by_choice}
-use Rattle.base_lists.proofs.Count.{length_remove}
 use Rattle.base_util.specs.Section.{part, items_at, HoldsSet, working_places}
 use Rattle.spec_hyparview.specs.Station.{in_active, is_requested}
 use Rattle.spec_hyparview.specs.Run.{Run, on, emit, draw, draw_shuffle, shuffled, message, flag}
@@ -23,12 +19,10 @@ use Rattle.spec_hyparview.specs.Events.{drop_dead, lose_passive, lose_other, los
 use Rattle.spec_hyparview.proofs.Invariant.{busy, Ok}
 use Rattle.spec_hyparview.proofs.Received.{ok_drop_request}
 use Rattle.work.specs.declared.Work.{Work}
-use Rattle.hyparview_state.specs.Layout.{active_part, active_at, active_places, active_size}
+use Rattle.hyparview_state.specs.Layout.{active_at, active_places, active_size}
 use Rattle.hyparview_state.specs.Unpack.{unpack, station_of, PackedState, Becomes}
 use Rattle.hyparview_state.specs.Work.{Held, work_of, run, run_of, Changes, Fine, Does}
-use Rattle.hyparview_state.proofs.Access.{active_fits}
 use Rattle.hyparview_state.proofs.Bridge.{guard_shut, on_twice, on_passed, on_done, change_then, change_yes, change_no, by, still, then, seq, seq_at, taken, left, holds_at, at_run}
-use Rattle.hyparview_state.proofs.Fields.{put_active}
 use Rattle.step_sending.proofs.Sets.{lent_items}
 use Rattle.step_active.specs.declared.Loss.TheVariants.{ConnectionClosed}
 use Rattle.step_active.specs.Sane.{Calm, reason_in}
@@ -109,6 +103,12 @@ pub quits_shut : (l : List ℕ) (g : Run) → (g.code ≡ 0 → ⊥) → quit_al
 unfolding quit_all
 quits_shut [] g h = refl
 quits_shut (p ∷ l) g h = ap (quit_all l) (quit_shut p g h) ∙ quits_shut l g h
+
+-- nor those of a run that begins with one
+pub quit_refused : (w : Work) (xs ds out : List ℕ) → Fine (work_of w xs) ds out → (w.code ≡ 0 → ⊥) → Does (work_of w xs) ds out (handle_quit (run (work_of w xs) ds out))
+unfolding handle_quit run_of
+quit_refused w xs ds out f h =
+    then (on_passed (work_of w xs) f.ready.packed clear_all h) (by _ (quits_shut (unpack xs).active (run (work_of w xs) ds out) h) (still f))
 
 -- the neighbors are those of the working set
 quits_are : (v xs : List ℕ) (n : ℕ) → HoldsSet working_places v (items_at active_places (take active_size (drop active_at xs))) → n ≡ length (items_at working_places v) → take n v ≡ (unpack xs).active

@@ -2,3 +2,4 @@ pub mod Joining
 pub mod Clearing
 pub mod Leaving
 pub mod Pins
+pub mod Own

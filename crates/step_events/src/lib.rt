@@ -1,12 +1,10 @@
 // What comes from the station's own side: a request to join, new data of its own, a closed connection, and Quit (the definition's `Events`).
 #![tactic(auto)]
 
-ghost use Rattle.std.specs.Prelude.{◌≡◌, length};
-ghost use Rattle.base_peer.specs.Held.{data_in, ValidData};
+ghost use Rattle.base_peer.specs.Held.{data_in};
 ghost use Rattle.spec_hyparview.specs.Budgets.{leaving};
 ghost use Rattle.spec_hyparview.specs.Run.{on};
 ghost use Rattle.spec_hyparview.specs.Events.{push_bootstrap, handle_join, lose_passive, handle_connection_closed, update_own_data, handle_pin, clear_all, handle_quit};
-ghost use Rattle.hyparview_state.specs.Layout.{words};
 ghost use Rattle.hyparview_state.specs.Unpack.{unpack, PackedState, Becomes};
 ghost use Rattle.hyparview_state.specs.Work.{GivenRoom, Given, Meets, Alters, Says, Makes};
 ghost use Rattle.step_active.specs.Sane.{Calm};
@@ -14,14 +12,13 @@ ghost use Rattle.step_events.specs.Free.{KnownJoins};
 
 use base_peer::{PeerData, PeerId};
 use base_timing::Timing;
-use hyparview_state::Layout;
+use hyparview_state::{Layout, Words};
 use record::{Kind, Refusal};
 use step_active::Loss;
 use work::Work;
 
 // The latest contacts are kept for a rejoin; a ninth evicts the oldest and its open join, since joins are open to these alone.
-fn push_bootstrap(w: Work, st: &mut [u64], p: PeerId) -> Work
-    requires st_len { length st.old ≡ words }
+fn push_bootstrap(w: Work, st: &mut Words, p: PeerId) -> Work
     requires packed_state { PackedState st.old }
     ensures { Alters (on (push_bootstrap p)) w result st }
 {
@@ -56,8 +53,7 @@ fn push_bootstrap(w: Work, st: &mut [u64], p: PeerId) -> Work
 
 // A neighbor gets no Join: it would tell all its neighbors, and views would change for nothing.
 // A Join may be lost without a sign, so it is sent once more later (spec_hyparview/Events `await_join`).
-pub fn handle_join(w: Work, st: &mut [u64], out: &mut [u8], p: PeerId) -> Work
-    requires st_len { length st.old ≡ words }
+pub fn handle_join(w: Work, st: &mut Words, out: &mut [u8], p: PeerId) -> Work
     requires given_room { GivenRoom w st out }
     requires known_joins { KnownJoins w.code (unpack st.old) }
     ensures { Says (handle_join p) w result st out }
@@ -73,7 +69,7 @@ pub fn handle_join(w: Work, st: &mut [u64], out: &mut [u8], p: PeerId) -> Work
     }
     // Code 10 where no number is left for a join.
     let id = st[Layout::NEXT_JOIN];
-    let d = work::require(b, Refusal::COUNTER, id < hyparview_state::TOP_COUNTER);
+    let d = work::require(b, Refusal::Counter, id < hyparview_state::TOP_COUNTER);
     if d.code != 0 {
         return d;
     }
@@ -89,8 +85,7 @@ pub fn handle_join(w: Work, st: &mut [u64], out: &mut [u8], p: PeerId) -> Work
 }
 
 // A mark saves a passive peer once: this may be the close that its alive Disconnect announced.
-fn lose_passive(w: Work, st: &mut [u64], p: PeerId) -> Work
-    requires st_len { length st.old ≡ words }
+fn lose_passive(w: Work, st: &mut Words, p: PeerId) -> Work
     requires packed_state { PackedState st.old }
     ensures { Alters (lose_passive p) w result st }
 {
@@ -104,12 +99,11 @@ fn lose_passive(w: Work, st: &mut [u64], p: PeerId) -> Work
 // No answer to an open request can come any more, so another peer is asked at once, without waiting for the request's timer.
 pub fn handle_connection_closed(
     w: Work,
-    st: &mut [u64],
+    st: &mut Words,
     draws: &[u32],
     out: &mut [u8],
     p: PeerId,
 ) -> Work
-    requires st_len { length st.old ≡ words }
     requires given { Given w st draws out }
     requires meets { Meets (Calm 0 leaving 1) w st draws out }
     ensures { Makes (handle_connection_closed p) w result st draws out }
@@ -122,45 +116,49 @@ pub fn handle_connection_closed(
     // No neighbor; where it was asked, another one is.
     let b = lose_passive(a, st, p);
     if requested {
-        let skip = [p];
-        return step_refill::refill_active_from_passive(b, st, draws, out, &skip);
+        return step_refill::refill_active_from_passive(b, st, draws, out, &[p]);
     }
     b
 }
 
 // Nothing is sent now: others hear of it by the next Join, Neighbor or Shuffle.
-pub fn update_own_data(w: Work, st: &mut [u64], d: PeerData) -> Work
-    requires st_len { length st.old ≡ words }
+pub fn update_own_data(w: Work, st: &mut Words, d: Option<PeerData>) -> Work
     requires packed_state { PackedState st.old }
-    requires valid_data { ValidData d }
     ensures { Alters (on (update_own_data (data_in d))) w result st }
 {
     if w.code != 0 {
         return w;
     }
-    let b = d.bytes;
-    let low = base_columns::word_at(b, 0);
-    let high = base_columns::word_at(b, base_columns::WORD);
-    st[Layout::OWN_PRESENT] = d.present as u64;
-    st[Layout::OWN_LEN] = d.len as u64;
-    st[Layout::OWN_LOW] = low;
-    st[Layout::OWN_HIGH] = high;
-    w
+    match d {
+        Some(d) => {
+            st[Layout::OWN_PRESENT] = 1;
+            st[Layout::OWN_LEN] = d.len as u64;
+            st[Layout::OWN_LOW] = base_columns::word_at(d.bytes, 0);
+            st[Layout::OWN_HIGH] = base_columns::word_at(d.bytes, base_columns::WORD);
+            w
+        }
+        None => {
+            st[Layout::OWN_PRESENT] = 0;
+            st[Layout::OWN_LEN] = 0;
+            st[Layout::OWN_LOW] = 0;
+            st[Layout::OWN_HIGH] = 0;
+            w
+        }
+    }
 }
 
 // 02, S-14: the neighbor p gets a pin, so that no arrival costs it its place. Code 17 where it is none, 18 where no more may have one.
-pub fn handle_pin(w: Work, st: &mut [u64], p: PeerId) -> Work
-    requires st_len { length st.old ≡ words }
+pub fn handle_pin(w: Work, st: &mut Words, p: PeerId) -> Work
     requires packed_state { PackedState st.old }
     ensures { Alters (handle_pin p) w result st }
 {
     let active = hyparview_state::in_active(st, p);
-    let a = work::require(w, Refusal::PIN_STRANGER, active);
+    let a = work::require(w, Refusal::PinStranger, active);
     let pinned = base_util::contains(&st[Layout::PINS..Layout::PINS_END], Layout::PINS_PLACES, p);
     let more = st[Layout::PINS_COUNT] + 1;
     let b = work::require(
         a,
-        Refusal::PIN_LIMIT,
+        Refusal::PinLimit,
         pinned | (more < st[Layout::ACTIVE_VIEW_CAPACITY]),
     );
     if b.code != 0 {
@@ -175,8 +173,7 @@ pub fn handle_pin(w: Work, st: &mut [u64], p: PeerId) -> Work
 }
 
 // Nothing is held of other peers any more; contacts, recent neighbors, open joins and counts stay, as in the Rust.
-fn clear_all(st: &mut [u64])
-    requires st_len { length st.old ≡ words }
+fn clear_all(st: &mut Words)
     requires packed_state { PackedState st.old }
     ensures { Becomes st.new (clear_all (unpack st.old)) }
 {
@@ -197,11 +194,13 @@ fn clear_all(st: &mut [u64])
 }
 
 // Each neighbor is told that the station leaves for good, so that it forgets it; no NeighborDown, since the user asked for it.
-pub fn handle_quit(w: Work, st: &mut [u64], draws: &[u32], out: &mut [u8]) -> Work
-    requires st_len { length st.old ≡ words }
+pub fn handle_quit(w: Work, st: &mut Words, draws: &[u32], out: &mut [u8]) -> Work
     requires given { Given w st draws out }
     ensures { Makes handle_quit w result st draws out }
 {
+    if w.code != 0 {
+        return w;
+    }
     let mut v = [0u64; base_util::WORKING_WORDS];
     base_util::copy_into(
         &st[Layout::ACTIVE..Layout::ACTIVE_END],
@@ -210,16 +209,13 @@ pub fn handle_quit(w: Work, st: &mut [u64], draws: &[u32], out: &mut [u8]) -> Wo
     );
     let n = base_util::count(&v, base_util::WORKING_PLACES);
     let mut r = w;
-    let mut i: usize = 0;
-    while (i < n) & (r.code == 0) {
-        let p = v[i];
-        i += 1;
+    for &p in &v[..n] {
         // It leaves the active view.
         step_active::remove_neighbor(st, p);
         r = step_sending::send_disconnect(r, st, draws, out, p, false);
-    }
-    if r.code != 0 {
-        return r;
+        if r.code != 0 {
+            return r;
+        }
     }
     clear_all(st);
     r

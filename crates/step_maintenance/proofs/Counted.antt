@@ -19,7 +19,7 @@ use Rattle.spec_hyparview.specs.Run.{on, require}
 use Rattle.spec_hyparview.specs.Timers.{renew_all, remember_all, other_recent, alone_counts, add_alone, count_alone, short_counts, add_short, count_short}
 use Rattle.work.specs.declared.Work.{Work}
 use Rattle.hyparview_state.specs.Layout.{active_part, recent_part, bootstrap_part, passes_alone, passes_short, active_places, bootstrap_places, recent_at, recent_places, recent_size, passes_alone_at, passes_short_at}
-use Rattle.hyparview_state.specs.Unpack.{unpack, station_of, long, PackedState, Becomes}
+use Rattle.hyparview_state.specs.Unpack.{unpack, station_of, PackedState, Becomes}
 use Rattle.hyparview_state.specs.Work.{work_of, run_of, Changes, ChangesAny}
 use Rattle.hyparview_state.proofs.Any.{required_at}
 use Rattle.hyparview_state.proofs.Bridge.{on_passed, on_done, require_said, change_then}
@@ -73,7 +73,6 @@ pub record Renewing (code : ℕ) (xs : List ℕ) (n : ℕ) (ys : List ℕ) (i : 
   pub packed : PackedState xs
   pub zero : code ≡ 0
   pub became : Becomes ys (set_recent (items_at recent_places (recent_part ys)) (unpack xs))
-  pub len : length ys ≡ length xs
   pub count : n ≡ length (items_at active_places (active_part xs))
   pub rest : Rest Then (length (items_at active_places (active_part xs))) (items_at active_places (active_part xs)) n (renew_all (items_at active_places (active_part xs)) (items_at recent_places (recent_part xs))) (items_at recent_places (recent_part ys)) i
 
@@ -83,7 +82,6 @@ renew_start code xs n v z e = record {
   packed = v;
   zero = z;
   became = record { packed = v; same = refl };
-  len = refl;
   count = e;
   rest = record { low = omega arith; top = omega (arith, e); long = refl; same = ap (λ (l : List ℕ). renew_all l (items_at recent_places (recent_part xs))) (sym (take_all n (items_at active_places (active_part xs)) (omega (arith, e)))) };
 }
@@ -108,7 +106,6 @@ module _ (code : ℕ) (xs : List ℕ) (n : ℕ) (ys : List ℕ) (i : ℕ) (v : R
         packed = v.packed;
         zero = v.zero;
         became = record { packed = b.packed; same = b.same ∙ ap (λ (l : List ℕ). set_recent l (unpack xs)) (sym q) };
-        len = long b.packed ∙ sym (long v.packed);
         count = v.count;
         rest = rest_next 0 Then v.rest (items_at recent_places (recent_part (put_mid recent_at recent_size ys r))) h
             (λ l. ap (renew_all l) (sym (q ∙ ap (λ (x : ℕ). renew max_recent_neighbors x (items_at recent_places (recent_part ys))) (e ∙ ap (λ (m : List ℕ). get_or m i 0) active_kept))));

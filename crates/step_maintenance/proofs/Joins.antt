@@ -5,7 +5,7 @@ use mathlib.Core.Path.{◌≡◌, refl, sym, ap, ◌∙◌}
 use mathlib.Core.Bool.{Bool, true, false}
 use mathlib.Core.List.{List, [], ◌∷◌}
 use native.Mathlib.Omega.{arith}
-use lib.ListN.{length, drop, get_or, set}
+use lib.ListN.{length, take, drop, get_or, set}
 use lib.Seq.{take_all, get_or-set_same}
 use Rattle.base_lists.specs.Lists.{null}
 use Rattle.base_lists.proofs.Choice.{split, choose_yes, choose_no}
@@ -15,14 +15,16 @@ use Rattle.base_util.specs.Chances.{pick}
 use Rattle.base_timing.specs.Timing.{backoff_due}
 use Rattle.base_peer.specs.Data.{Data}
 use Rattle.base_util.specs.Section.{items_at, HoldsSet, working_places}
+use Rattle.base_util.proofs.Sets.{lent}
 use Rattle.record.specs.Format.{Rec}
 use Rattle.spec_hyparview.specs.Run.{Run, emit, emit_all, draw, to_draw, one_of, draw_one_of, picked}
 use Rattle.spec_hyparview.specs.Sending.{join_to, join}
 use Rattle.spec_hyparview.specs.Timers.{other_recent, rejoin_recent, rejoin_bootstrap, rejoin, count_alone, rejoin_if_due, pass_alone}
 use Rattle.work.specs.declared.Work.{Work}
-use Rattle.hyparview_state.specs.Layout.{words, bootstrap_part, passes_alone, bootstrap_places, passes_alone_at}
-use Rattle.hyparview_state.specs.Unpack.{unpack, station_of}
+use Rattle.hyparview_state.specs.Layout.{bootstrap_part, passes_alone, bootstrap_places, passes_alone_at}
+use Rattle.hyparview_state.specs.Unpack.{unpack, station_of, long, PackedState}
 use Rattle.hyparview_state.specs.Work.{work_of, run, run_of, Changes, DrawsAny, Room, Tells, Fine, Does}
+use Rattle.hyparview_state.proofs.Access.{of_bootstrap}
 use Rattle.hyparview_state.proofs.Bridge.{guard_shut, by, still, then, then_tell, seq, seq_at, taken, left}
 use Rattle.hyparview_state.proofs.Any.{then_one_of}
 
@@ -31,27 +33,18 @@ use Rattle.hyparview_state.proofs.Any.{then_one_of}
 abbrev Then : Data → Run → List ℕ → Run
 Then d g l = emit_all (join_to d) l g
 
-pub record Joining (xs : List ℕ) (w : Work) (out₀ : List ℕ) (n : ℕ) (out : List ℕ) (r : Work) (i : ℕ) : Type 0 where
+pub record Joining (xs : List ℕ) (w : Work) (out₀ ps : List ℕ) (out : List ℕ) (r : Work) (i : ℕ) : Type 0 where
   pub room : Room (work_of r xs) out
   pub drawn : r.drawn ≡ w.drawn
   pub len : length out ≡ length out₀
-  pub count : n ≡ length (items_at bootstrap_places (bootstrap_part xs))
-  pub rest : (ds : List ℕ)
-      → Rest (Then (unpack xs).own_data) (length (items_at bootstrap_places (bootstrap_part xs))) (items_at bootstrap_places (bootstrap_part xs)) n
-      (emit_all (join_to (unpack xs).own_data) (items_at bootstrap_places (bootstrap_part xs)) (run (work_of w xs) ds out₀)) (run (work_of r xs) ds out) i
+  pub rest : (ds : List ℕ) → Rest (Then (unpack xs).own_data) (length ps) ps (length ps) (emit_all (join_to (unpack xs).own_data) ps (run (work_of w xs) ds out₀)) (run (work_of r xs) ds out) i
 
-pub joins_start : (xs : List ℕ) (w : Work) (out : List ℕ) (n : ℕ) → Room (work_of w xs) out → n ≡ length (items_at bootstrap_places (bootstrap_part xs)) → Joining xs w out n out w 0
-joins_start xs w out n v e = record {
+pub joins_start : (xs : List ℕ) (w : Work) (out ps : List ℕ) → Room (work_of w xs) out → Joining xs w out ps out w 0
+joins_start xs w out ps v = record {
   room = v;
   drawn = refl;
   len = refl;
-  count = e;
-  rest = λ ds. record {
-    low = omega arith;
-    top = omega (arith, e);
-    long = refl;
-    same = ap (λ (l : List ℕ). emit_all (join_to (unpack xs).own_data) l (run (work_of w xs) ds out)) (sym (take_all n (items_at bootstrap_places (bootstrap_part xs)) (omega (arith, e))));
-  };
+  rest = λ ds. record { low = omega arith; top = omega arith; long = refl; same = ap (λ (l : List ℕ). emit_all (join_to (unpack xs).own_data) l (run (work_of w xs) ds out)) (sym (take_all (length ps) ps (omega arith))) };
 }
 
 -- a Join is the record that carries the station's own data
@@ -59,23 +52,28 @@ join_is_told : (r : Work) (xs ds out : List ℕ) (p q : ℕ) → p ≡ q → joi
 unfolding join run_of
 join_is_told r xs ds out p q e = ap (λ (x : ℕ). emit (join_to (unpack xs).own_data x) (run (work_of r xs) ds out)) e
 
-module _ (xs : List ℕ) (w : Work) (out₀ : List ℕ) (n : ℕ) (out : List ℕ) (r : Work) (i : ℕ) (v : Joining xs w out₀ n out r i) where
-  pub joins_below : i < n → i < length (items_at bootstrap_places (bootstrap_part xs))
-  joins_below h = omega (arith, v.count)
-
-  pub joins_next : (p : ℕ) (a : Work) (o : List ℕ) → i < n → p ≡ get_or (items_at bootstrap_places (bootstrap_part xs)) i 0 → Tells (join p) (work_of r xs) (work_of a xs) out o → length o ≡ length out → Joining xs w out₀ n o a (i + 1)
+module _ (xs : List ℕ) (w : Work) (out₀ ps out : List ℕ) (r : Work) (i : ℕ) (v : Joining xs w out₀ ps out r i) where
+  pub joins_next : (p : ℕ) (a : Work) (o : List ℕ) → i < length ps → p ≡ get_or ps i 0 → Tells (join p) (work_of r xs) (work_of a xs) out o → length o ≡ length out → Joining xs w out₀ ps o a (i + 1)
   unfolding emit_all
   joins_next p a o h e k q = record {
     room = k.room;
     drawn = k.drawn ∙ v.drawn;
     len = q ∙ v.len;
-    count = v.count;
     rest = λ ds. rest_next 0 (Then (unpack xs).own_data) (v.rest ds) (run (work_of a xs) ds o) h (λ l. ap (emit_all (join_to (unpack xs).own_data) l) (sym (k.same ds ∙ join_is_told r xs ds out p _ e)));
   }
 
-  pub joins_end : n ≤ i → Tells rejoin_bootstrap (work_of w xs) (work_of r xs) out₀ out
-  unfolding rejoin_bootstrap emit_all run_of unpack station_of
-  joins_end h = record { room = v.room; drawn = v.drawn; same = λ ds. sym (rest_end 0 (Then (unpack xs).own_data) (v.rest ds) h) }
+-- k words of their places are the bootstrap peers
+lent_bootstrap : (xs : List ℕ) (k : ℕ) → PackedState xs → k ≡ length (items_at bootstrap_places (bootstrap_part xs)) → take k (bootstrap_part xs) ≡ items_at bootstrap_places (bootstrap_part xs)
+lent_bootstrap xs k v e = let s = of_bootstrap xs v in ap (λ (n : ℕ). take n (bootstrap_part xs)) (e ∙ s.counted) ∙ lent bootstrap_places _ s
+
+pub joins_end : (xs : List ℕ) (w : Work) (out₀ : List ℕ) (k : ℕ) (out : List ℕ) (r : Work) (i : ℕ) → k ≡ length (items_at bootstrap_places (bootstrap_part xs)) → Joining xs w out₀ (take k (bootstrap_part xs)) out r i
+    → length (take k (bootstrap_part xs)) ≤ i → Tells rejoin_bootstrap (work_of w xs) (work_of r xs) out₀ out
+unfolding rejoin_bootstrap emit_all run_of unpack station_of
+joins_end xs w out₀ k out r i e v h = record {
+  room = v.room;
+  drawn = v.drawn;
+  same = λ ds. sym (ap (λ (l : List ℕ). emit_all (join_to (unpack xs).own_data) l (run (work_of w xs) ds out₀)) (sym (lent_bootstrap xs k v.room.packed e)) ∙ rest_end 0 (Then (unpack xs).own_data) (v.rest ds) h);
+}
 
 -- ---- one recent neighbor
 
@@ -155,8 +153,8 @@ alone_stopped w a xs ds out v h k = let d = then k (still v) in seq rejoin_if_du
 -- ---- a pass that is counted
 
 -- the number that was written is the number of passes
-pub due_counted : (xs : List ℕ) (n : ℕ) (t : Bool) → length xs ≡ words → t ≡ backoff_due n → t ≡ backoff_due (passes_alone (set xs passes_alone_at n))
-due_counted xs n t l e = e ∙ ap backoff_due (sym (get_or-set_same xs passes_alone_at n 0 (omega (arith, l))))
+pub due_counted : (xs : List ℕ) (n : ℕ) (t : Bool) → PackedState xs → t ≡ backoff_due n → t ≡ backoff_due (passes_alone (set xs passes_alone_at n))
+due_counted xs n t l e = e ∙ ap backoff_due (sym (get_or-set_same xs passes_alone_at n 0 (omega (arith, long l))))
 
 pub passed_alone : (w a r : Work) (xs ys ds out o : List ℕ) → Fine (work_of w xs) ds out → Does (work_of r ys) ds o (rejoin_if_due (run (work_of a ys) ds out)) → Changes count_alone (work_of w xs) (work_of a ys)
     → Does (work_of r ys) ds o (pass_alone (run (work_of w xs) ds out))

@@ -1,29 +1,27 @@
 // The maintenance and its timer (the definition's `Timers`).
 #![tactic(auto)]
 
-ghost use Rattle.std.specs.Prelude.{◌≡◌, ◌≤◌, length};
+ghost use Rattle.std.specs.Prelude.{◌≤◌, length};
 ghost use Rattle.base_timing.specs.Timing.{maintenance_interval};
 ghost use Rattle.spec_hyparview.specs.Run.{emit, timer};
 ghost use Rattle.spec_hyparview.specs.Timers.{pass_alone, maintain};
 ghost use Rattle.spec_hyparview.specs.Timers.{handle_maintenance_timer};
-ghost use Rattle.hyparview_state.specs.Layout.{words};
 ghost use Rattle.hyparview_state.specs.Work.{Given, Makes, Emits};
 
 use base_timing::Timing;
-use hyparview_state::{Layout, RefillLimit};
+use hyparview_state::{Layout, RefillLimit, Words};
 use record::{Kind, Refusal};
 use work::Work;
 
 // Both views are empty: no shuffle can fill them, so Joins go out, at passes further and further apart, to the bootstrap peers
 // and, as these may not be there any more, to one recent neighbor.
-fn pass_alone(w: Work, st: &mut [u64], draws: &[u32], out: &mut [u8]) -> Work
-    requires st_len { length st.old ≡ words }
+fn pass_alone(w: Work, st: &mut Words, draws: &[u32], out: &mut [u8]) -> Work
     requires given { Given w st draws out }
     ensures { Makes pass_alone w result st draws out }
 {
     // Code 10 where the pass cannot be counted.
     let n = st[Layout::PASSES_ALONE];
-    let mut a = work::require(w, Refusal::COUNTER, n < hyparview_state::TOP_PASSES);
+    let mut a = work::require(w, Refusal::Counter, n < hyparview_state::TOP_PASSES);
     if a.code != 0 {
         return a;
     }
@@ -44,10 +42,7 @@ fn pass_alone(w: Work, st: &mut [u64], draws: &[u32], out: &mut [u8]) -> Work
         );
         // Join to each bootstrap peer, in order.
         let k = base_util::count(bootstrap, Layout::BOOTSTRAP_PLACES);
-        let mut i: usize = 0;
-        while i < k {
-            let p = base_util::get_index(bootstrap, Layout::BOOTSTRAP_PLACES, i);
-            i += 1;
+        for &p in &bootstrap[..k] {
             a = step_sending::join(a, shared, out, p);
         }
         let others = base_util::count(&recent, base_util::WORKING_PLACES);
@@ -63,8 +58,7 @@ fn pass_alone(w: Work, st: &mut [u64], draws: &[u32], out: &mut [u8]) -> Work
 
 // Alone it rejoins, without neighbors it recovers, and short it asks a few; why each so often, the definition says
 // (spec_hyparview/Timers `pass_alone`, `pass_known`).
-fn maintain(w: Work, st: &mut [u64], draws: &[u32], out: &mut [u8]) -> Work
-    requires st_len { length st.old ≡ words }
+fn maintain(w: Work, st: &mut Words, draws: &[u32], out: &mut [u8]) -> Work
     requires given { Given w st draws out }
     ensures { Makes maintain w result st draws out }
 {
@@ -78,10 +72,9 @@ fn maintain(w: Work, st: &mut [u64], draws: &[u32], out: &mut [u8]) -> Work
         st[Layout::PASSES_ALONE] = 0;
     }
     let a = step_refill::end_recovery(w, st);
-    let none = [0u64; 0];
     // Without neighbors, every pass begins a recovery.
     if alone {
-        return step_refill::start_refill(a, st, draws, out, RefillLimit::Recovery, &none);
+        return step_refill::start_refill(a, st, draws, out, RefillLimit::Recovery, &[]);
     }
     if hyparview_state::is_short(st) {
         // Nothing is done while a recovery runs.
@@ -91,13 +84,13 @@ fn maintain(w: Work, st: &mut [u64], draws: &[u32], out: &mut [u8]) -> Work
         // The pass is counted (code 10 where it cannot be), and the backoff says whether it refills, with a new limit; who refused may have
         // room by then.
         let n = st[Layout::PASSES_SHORT];
-        let b = work::require(a, Refusal::COUNTER, n < hyparview_state::TOP_PASSES);
+        let b = work::require(a, Refusal::Counter, n < hyparview_state::TOP_PASSES);
         if b.code == 0 {
             st[Layout::PASSES_SHORT] = n + 1;
         }
         if base_timing::backoff_due(st[Layout::PASSES_SHORT] as u32) {
             let c = step_refill::clear_refused(b, st);
-            return step_refill::start_refill(c, st, draws, out, RefillLimit::few_requests(), &none);
+            return step_refill::start_refill(c, st, draws, out, RefillLimit::few_requests(), &[]);
         }
         return b;
     }
@@ -114,8 +107,7 @@ pub fn schedule_maintenance(w: Work, out: &mut [u8]) -> Work
 }
 
 // Who is still a neighbor becomes the newest of the recent ones, or others who come and go would push it out.
-pub fn handle_maintenance_timer(w: Work, st: &mut [u64], draws: &[u32], out: &mut [u8]) -> Work
-    requires st_len { length st.old ≡ words }
+pub fn handle_maintenance_timer(w: Work, st: &mut Words, draws: &[u32], out: &mut [u8]) -> Work
     requires given { Given w st draws out }
     ensures { Makes handle_maintenance_timer w result st draws out }
 {
@@ -125,14 +117,12 @@ pub fn handle_maintenance_timer(w: Work, st: &mut [u64], draws: &[u32], out: &mu
             &st[Layout::ACTIVE..Layout::ACTIVE_END],
             Layout::ACTIVE_PLACES,
         );
-        let mut i: usize = 0;
-        while i < n {
+        for i in 0..n {
             let p = base_util::get_index(
                 &st[Layout::ACTIVE..Layout::ACTIVE_END],
                 Layout::ACTIVE_PLACES,
                 i,
             );
-            i += 1;
             base_util::renew(
                 &mut st[Layout::RECENT..Layout::RECENT_END],
                 Layout::RECENT_PLACES,

@@ -1,5 +1,6 @@
 -- Laws of the messages received that several proofs cite.
 -- Assumes nothing.
+use Rattle.std.specs.Prelude as prelude
 use Prim.Native.Nat.{ℕ, ◌≤◌, ◌<◌}
 use mathlib.Core.Path.{◌≡◌, refl, sym, ap, ◌∙◌, subst}
 use mathlib.Core.Bool.{Bool, true, false, not, ◌&&◌, ◌||◌}
@@ -128,7 +129,7 @@ pub walk_fits : (xs : List ℕ) → PackedState xs → active_random_walk_length
 unfolding settings_at
 walk_fits xs v = omega (arith, (ranges (settings_at xs) (of_settings xs v)).active_walk.most)
 
-module _ (w r : Work) (xs ds out o : List ℕ) (p : ℕ) (d : PeerData) where
+module _ (w r : Work) (xs ds out o : List ℕ) (p : ℕ) (d : prelude.Option PeerData) where
   pub joins_forwarded : (v : List ℕ) (k : ℕ) → HoldsSet working_places v (without p (unpack xs).active) → k ≡ length (items_at working_places v)
       → Does (work_of r xs) ds o (emit_all (forward_join_to (node_in (record { id = p; «data» = d })) (active_random_walk_length xs)) (take k v) (run (work_of w xs) ds out))
       → Does (work_of r xs) ds o (forward_joins p (data_in d) (run (work_of w xs) ds out))

@@ -1,33 +1,30 @@
 // The messages received but for the two of a shuffle (the definition's `Messages`).
 #![tactic(auto)]
 
-ghost use Rattle.std.specs.Prelude.{◌≡◌, ◌≤◌, length};
+ghost use Rattle.std.specs.Prelude.{◌≤◌, length};
 ghost use Rattle.base_lists.specs.Lists.{without};
-ghost use Rattle.base_peer.specs.Held.{ValidData, data_in, node_in};
-ghost use Rattle.base_util.specs.Section.{working_words, BecomesSet};
+ghost use Rattle.base_peer.specs.Held.{data_in, node_in};
+ghost use Rattle.base_util.specs.Section.{BecomesSet};
 ghost use Rattle.spec_hyparview.specs.Budgets.{leaving, arriving};
 ghost use Rattle.spec_hyparview.specs.Run.{emit};
 ghost use Rattle.spec_hyparview.specs.Messages.{forward_join_to, learn_joiner, on_forward_join};
 ghost use Rattle.spec_hyparview.specs.Messages.{on_join, on_neighbor};
 ghost use Rattle.spec_hyparview.specs.Messages.{note_refusal};
 ghost use Rattle.spec_hyparview.specs.Messages.{on_disconnect};
-ghost use Rattle.hyparview_state.specs.Layout.{words};
 ghost use Rattle.hyparview_state.specs.Unpack.{unpack, PackedState};
 ghost use Rattle.hyparview_state.specs.Work.{Given, Meets, Alters, Makes, Emits};
 ghost use Rattle.step_messages.specs.Between.{Between};
 
 use base_peer::{PeerData, PeerId, PeerInfo};
 use base_timing::Ttl;
-use hyparview_state::Layout;
+use hyparview_state::{Layout, Words};
 use record::{Message, Refusal};
 use step_active::Loss;
 use work::Work;
 
 // The neighbors but p, as a working set: a walk does not turn back to its sender, and who joins need not hear of itself.
-fn other_active(st: &[u64], p: PeerId, t: &mut [u64])
-    requires st_len { length st.now ≡ words }
+fn other_active(st: &Words, p: PeerId, t: &mut [u64; base_util::WORKING_WORDS])
     requires packed_state { PackedState st.now }
-    requires t_len { length t.old ≡ working_words }
     ensures { BecomesSet t (without p (unpack st.now).active) }
 {
     base_util::copy_into(
@@ -43,15 +40,13 @@ fn other_active(st: &[u64], p: PeerId, t: &mut [u64])
 // Where the walk has the passive length left (the paper's PRWL), the one who joins goes to the passive view.
 fn learn_joiner(
     w: Work,
-    st: &mut [u64],
+    st: &mut Words,
     draws: &[u32],
     out: &mut [u8],
     n: PeerInfo,
     ttl: u16,
 ) -> Work
-    requires st_len { length st.old ≡ words }
     requires given { Given w st draws out }
-    requires valid_data { ValidData n.data }
     ensures { Makes (learn_joiner (node_in n) ttl) w result st draws out }
 {
     if ttl as u64 == st[Layout::PASSIVE_RANDOM_WALK_LENGTH] {
@@ -63,8 +58,7 @@ fn learn_joiner(
 
 // The data is that of the message, also where other data of the peer is held.
 fn forward_join_to(w: Work, out: &mut [u8], n: PeerInfo, ttl: u16, q: PeerId) -> Work
-    requires written_in_bounds { w.written ≤ length out.old }
-    requires valid_data { ValidData n.data }
+    requires { w.written ≤ length out.old }
     ensures { Emits (emit (forward_join_to (node_in n) ttl q)) w result out }
 {
     work::send_node(w, out, Message::FORWARD_JOIN, q, 0, ttl, n)
@@ -73,16 +67,14 @@ fn forward_join_to(w: Work, out: &mut [u8], n: PeerInfo, ttl: u16, q: PeerId) ->
 // Where the walk ends, the one who joins is asked and enters when it answers: a peer out of reach takes no place.
 pub fn on_forward_join(
     w: Work,
-    st: &mut [u64],
+    st: &mut Words,
     draws: &[u32],
     out: &mut [u8],
     from: PeerId,
     n: PeerInfo,
     ttl: u16,
 ) -> Work
-    requires st_len { length st.old ≡ words }
     requires given { Given w st draws out }
-    requires valid_data { ValidData n.data }
     ensures { Makes (on_forward_join from (node_in n) ttl) w result st draws out }
 {
     let t = Ttl(ttl);
@@ -111,8 +103,7 @@ pub fn on_forward_join(
 // ---- Disconnect
 
 // p refused a request, where one was open, so that low priority skips it from now on; code 7 where a 33rd would be needed.
-fn note_refusal(w: Work, st: &mut [u64], p: PeerId, requested: bool) -> Work
-    requires st_len { length st.old ≡ words }
+fn note_refusal(w: Work, st: &mut Words, p: PeerId, requested: bool) -> Work
     requires packed_state { PackedState st.old }
     ensures { Alters (note_refusal p requested) w result st }
 {
@@ -126,7 +117,7 @@ fn note_refusal(w: Work, st: &mut [u64], p: PeerId, requested: bool) -> Work
             Layout::REFUSED_PLACES,
             p,
         ) | (n < Layout::REFUSED_PLACES);
-        let a = work::require(w, Refusal::REFUSED_PEERS, fits);
+        let a = work::require(w, Refusal::RefusedPeers, fits);
         if a.code != 0 {
             return a;
         }
@@ -143,13 +134,12 @@ fn note_refusal(w: Work, st: &mut [u64], p: PeerId, requested: bool) -> Work
 // Alive says that only the link goes, so its sender stays a spare peer; else it is not on the topic, and is asked no more.
 pub fn on_disconnect(
     w: Work,
-    st: &mut [u64],
+    st: &mut Words,
     draws: &[u32],
     out: &mut [u8],
     p: PeerId,
     alive: bool,
 ) -> Work
-    requires st_len { length st.old ≡ words }
     requires given { Given w st draws out }
     requires meets { Meets (Between 0 leaving 1) w st draws out }
     ensures { Makes (on_disconnect p alive) w result st draws out }
@@ -191,15 +181,13 @@ pub fn on_disconnect(
 // Why an open request to it is dropped first, the definition says (spec_hyparview/Messages `drop_pending`).
 pub fn on_join(
     w: Work,
-    st: &mut [u64],
+    st: &mut Words,
     draws: &[u32],
     out: &mut [u8],
     p: PeerId,
-    d: PeerData,
+    d: Option<PeerData>,
 ) -> Work
-    requires st_len { length st.old ≡ words }
     requires given { Given w st draws out }
-    requires valid_data { ValidData d }
     requires meets { Meets (Between 0 arriving 40) w st draws out }
     ensures { Makes (on_join p (data_in d)) w result st draws out }
 {
@@ -211,10 +199,8 @@ pub fn on_join(
     let k = base_util::count(&v, base_util::WORKING_PLACES);
     let ttl = st[Layout::ACTIVE_RANDOM_WALK_LENGTH] as u16;
     let n = PeerInfo { id: p, data: d };
-    let mut i: usize = 0;
-    while i < k {
-        b = forward_join_to(b, out, n, ttl, v[i]);
-        i += 1;
+    for &q in &v[..k] {
+        b = forward_join_to(b, out, n, ttl, q);
     }
     b
 }
@@ -222,16 +208,14 @@ pub fn on_join(
 // Neighbor from a peer with an open request is its reply, and is not answered (spec_hyparview/Sending `send_neighbor` says why).
 pub fn on_neighbor(
     w: Work,
-    st: &mut [u64],
+    st: &mut Words,
     draws: &[u32],
     out: &mut [u8],
     p: PeerId,
-    d: PeerData,
+    d: Option<PeerData>,
     high: bool,
 ) -> Work
-    requires st_len { length st.old ≡ words }
     requires given { Given w st draws out }
-    requires valid_data { ValidData d }
     requires meets { Meets (Between 0 arriving 40) w st draws out }
     ensures { Makes (on_neighbor p (data_in d) high) w result st draws out }
 {

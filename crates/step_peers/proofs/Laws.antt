@@ -8,7 +8,7 @@ use mathlib.Core.Option.{Option, none, some}
 use native.Mathlib.Omega.{arith}
 use lib.ListN.{length, take, drop, get_or, length-append}
 use lib.Dec.{eqb, leb, ltb}
-use borrow.Author.Tests.{eqb-false, leb-false, not-true, not-false, eq-eqb, ne_eqb}
+use borrow.Author.Tests.{eqb-false, leb-false, not-true, eq-eqb, ne_eqb}
 use Rattle.record.specs.Kinds.{Evicted, output_byte}
 use Rattle.record.specs.Kinds as kinds
 use Rattle.base_lists.specs.Lists.{null, remove, shift_remove}
@@ -18,15 +18,15 @@ use Rattle.base_util.proofs.Sets.{empty_is_null}
 use Rattle.hyparview_state.specs.Layout.{me, passive_part, peer_data_part, passive_view_capacity, passive_at, passive_count, passive_places, passive_size, peer_data_at, peer_data_count, peer_data_places, peer_data_size}
 use Rattle.base_columns.specs.Columns.{data_map_at}
 use Rattle.base_lists.specs.Maps.{lookup, has}
-use Rattle.base_lists.proofs.Choice.{by_choice, choose_yes, choose_no, split, and_right, and_false, or_left, or_right}
+use Rattle.base_lists.proofs.Choice.{by_choice, choose_yes, choose_no, and_right, and_false}
 use Rattle.base_lists.proofs.Count.{length_shift, length_remove}
 use Rattle.base_util.specs.Chances.{pick}
 use Rattle.base_util.proofs.Chances.{pick_below}
 use Rattle.base_peer.specs.declared.PeerData.{PeerData}
-use Rattle.base_peer.specs.Held.{data_in, node_in, ValidData}
-use Rattle.base_peer.proofs.Data.{bytes_in, length_bytes}
+use Rattle.base_peer.specs.Held.{data_in, node_in}
+use Rattle.base_peer.proofs.Data.{length_bytes}
 use Rattle.work.specs.declared.Work.{Work}
-use Rattle.spec_hyparview.specs.Run.{Run, guard, on, emit, to_draw, one_of, draw_one_of, require, picked, notice, node, node_notice}
+use Rattle.spec_hyparview.specs.Run.{Run, guard, on, emit, to_draw, one_of, draw_one_of, require, picked, notice, node_notice}
 use Rattle.hyparview_state.specs.Work.{Held, work_of, ChangesAny, DrawsAny, TellsAny, run, run_of, Changes, Room, Tells, Fine}
 use Rattle.hyparview_state.proofs.Any.{one_of_at, required_at, told_at}
 use Rattle.hyparview_state.proofs.Bridge.{on_passed, on_twice, unchanged, change_then, change_yes, change_no, telling, tell_by, tell_then, tell_yes, tell_no, still, by, then, then_draw, then_tell, seq, taken, left, require_said}
@@ -36,7 +36,8 @@ use Rattle.spec_hyparview.proofs.Keeping.{one_of_station, emit_station, emit_fin
 use Rattle.spec_hyparview.specs.Station.{Station, is_me, in_active, in_passive, in_view, passive_is_full}
 use Rattle.spec_hyparview.specs.Peers.{is_known, data_fits, store_data, keep_data, announce_data, insert_data, insert_peer_info, forget_peer, drop_traces, drop_mark, drop_data, shift_passive, push_passive, evict_at, must_evict, evicted, evict, tell_evicted, make_room, is_newcomer, enter_passive, evicted_for, add_passive, evicted_by}
 use Rattle.step_peers.specs.Answer.{named_in, Adds}
-use Rattle.step_peers.specs.declared.Evicted.TheVariants.{Nobody, Peer}
+use Rattle.std.specs.Prelude.{Some, None}
+use Rattle.std.specs.Prelude as prelude
 use Rattle.step_peers.specs.declared.Added.{Added}
 use Rattle.hyparview_state.specs.Unpack.{unpack, station_of, settings_at, PackedState}
 use Rattle.hyparview_state.proofs.Access.{of_settings, of_passive, of_peer_data, passive_fits, count_passive}
@@ -61,14 +62,6 @@ evicts w a r i p e k₂ k₁ = change_then _ (λ ds out. rw e) k₂ k₁
 
 -- ---- peer data
 
-present_data : (d : PeerData) → d.present ≡ true → data_in d ≡ some (bytes_of (data_in d))
-unfolding data_in bytes_of
-present_data d h = rw (choose_yes d.present (some (take d.len d.bytes)) none h)
-
-absent_data : (d : PeerData) → d.present ≡ false → data_in d ≡ none
-unfolding data_in
-absent_data d h = choose_no _ _ _ h
-
 -- with other names for the work and the output that are handed on
 pub told_as : {step : Run → Run} (w a b : Work) (xs out o u : List ℕ) → a ≡ b → o ≡ u → Tells step (work_of w xs) (work_of b xs) out u → Tells step (work_of w xs) (work_of a xs) out o
 told_as {step} w a b xs out o u e f k =
@@ -79,30 +72,34 @@ unfolding null
 null_is [] n e = eq-eqb n 0 (sym e)
 null_is (x ∷ xs) n e = ne_eqb n 0 (λ q. omega arith)
 
--- data of length 0 has no bytes, absent or not
-pub no_bytes : (d : PeerData) → ValidData d → eqb d.len 0 ≡ null (bytes_of (data_in d))
-no_bytes d v = null_is (take d.len d.bytes) d.len (length_bytes d v) ∙ ap null (sym (bytes_in d v))
+-- data of length 0 has no bytes
+pub no_bytes : (d : PeerData) → eqb d.len 0 ≡ null (bytes_of (data_in (Some d)))
+unfolding data_in bytes_of
+no_bytes d = null_is (take d.len d.bytes) d.len (length_bytes d)
 
 module _ (w : Held) (out : List ℕ) (p : ℕ) (d : PeerData) where
-  pub not_announced : (t : Bool) → Room w out → t ≡ null (bytes_of (data_in d)) → t ≡ true → Tells (announce_data p (bytes_of (data_in d))) w w out out
+  pub not_announced : (t : Bool) → Room w out → t ≡ null (bytes_of (data_in (Some d))) → t ≡ true → Tells (announce_data p (bytes_of (data_in (Some d)))) w w out out
   unfolding announce_data
   not_announced t v e h = tell_by _ (λ ds. choose_yes _ _ _ (sym e ∙ h)) (telling v (unchanged (λ g. g) v.packed (λ ds o. refl)))
 
-pub announced : (w r : Work) (xs out o : List ℕ) (p : ℕ) (d : PeerData) (t : Bool) → Room (work_of w xs) out → d.present ≡ true → t ≡ null (bytes_of (data_in d)) → t ≡ false
-    → TellsAny (emit (node_notice (output_byte kinds.PeerData) p (node_in (record { id = 0; «data» = d })))) w r out o
-    → Tells (announce_data p (bytes_of (data_in d))) (work_of w xs) (work_of r xs) out o
-unfolding announce_data node_in
-announced w r xs out o p d t v y e h k =
-    tell_by _ (λ ds. choose_no _ _ _ (sym e ∙ h) ∙ ap (λ (x : Data). emit (record { kind = output_byte kinds.PeerData; message = 0; flags = 0; peer = p; second = 0; ttl = 0; number = 0; nodes = node 0 x ∷ [] }) (run (work_of w xs) ds out)) (sym (present_data d y))) (told_at xs v.packed _ k)
+pub announced : (w r : Work) (xs out o : List ℕ) (p : ℕ) (d : PeerData) (t : Bool) → Room (work_of w xs) out → t ≡ null (bytes_of (data_in (Some d))) → t ≡ false
+    → TellsAny (emit (node_notice (output_byte kinds.PeerData) p (node_in (record { id = 0; «data» = Some d })))) w r out o
+    → Tells (announce_data p (bytes_of (data_in (Some d)))) (work_of w xs) (work_of r xs) out o
+unfolding announce_data node_in data_in bytes_of
+announced w r xs out o p d t v e h k = tell_by _ (λ ds. choose_no _ _ _ (sym e ∙ h)) (told_at xs v.packed _ k)
 
-module _ (w : Held) (out : List ℕ) (p : ℕ) (d : PeerData) where
-  some_info : (r : Held) (o : List ℕ) → d.present ≡ true → Tells (insert_data p (bytes_of (data_in d))) w r out o → Tells (insert_peer_info p (data_in d)) w r out o
-  unfolding insert_peer_info
-  some_info r o y k = tell_by _ (λ ds. ap (λ (x : Data). insert_peer_info p x (run w ds out)) (present_data d y)) k
+module _ (w : Held) (out : List ℕ) (p : ℕ) where
+  some_info : (d : PeerData) (r : Held) (o : List ℕ) → Tells (insert_data p (bytes_of (data_in (Some d)))) w r out o → Tells (insert_peer_info p (data_in (Some d))) w r out o
+  unfolding insert_peer_info data_in bytes_of
+  some_info d r o k = tell_by _ (λ ds. refl) k
 
-  pub no_info : Room w out → d.present ≡ false → Tells (insert_peer_info p (data_in d)) w w out out
-  unfolding insert_peer_info
-  no_info v y = tell_by _ (λ ds. ap (λ (x : Data). insert_peer_info p x (run w ds out)) (absent_data d y)) (telling v (unchanged (λ g. g) v.packed (λ ds o. refl)))
+  -- the data as it was found to be
+  pub given_data : {x y : prelude.Option PeerData} {r : Held} {o : List ℕ} → x ≡ y → Tells (insert_peer_info p (data_in y)) w r out o → Tells (insert_peer_info p (data_in x)) w r out o
+  given_data {r = r} {o = o} e k = subst (λ (z : prelude.Option PeerData). Tells (insert_peer_info p (data_in z)) w r out o) (sym e) k
+
+  pub no_info : Room w out → Tells (insert_peer_info p (data_in None)) w w out out
+  unfolding insert_peer_info data_in
+  no_info v = telling v (unchanged (λ g. g) v.packed (λ ds o. refl))
 
 -- ---- one of the items
 
@@ -133,30 +130,24 @@ module _ (w a r : Held) (out o : List ℕ) (p : ℕ) (b : List ℕ) (t : Bool) w
   unfolding insert_data
   inserted e h k₂ k₁ = tell_no (is_known p b) e _ h (tell_then _ (λ ds. refl) (telling k₁.room k₂) k₁)
 
--- what the test that nothing is stored said: whether there is data, and whether it is known
-pub is_given : (d : PeerData) (k : Bool) → (not d.present || k) ≡ false → d.present ≡ true
-is_given d k e = not-false d.present (or_left (not d.present) k e)
-
 module _ (w : Work) (xs out : List ℕ) (p : ℕ) (d : PeerData) (y : Bool) where
-  module _ (v : PackedState xs) (f : y ≡ holds (lookup p (unpack xs).peer_data) (bytes_of (data_in d))) where
-    known_here : (eqb p (me xs) || y) ≡ is_known p (bytes_of (data_in d)) (unpack xs)
+  module _ (v : PackedState xs) (f : y ≡ holds (lookup p (unpack xs).peer_data) (bytes_of (data_in (Some d)))) where
+    known_here : (eqb p (me xs) || y) ≡ is_known p (bytes_of (data_in (Some d))) (unpack xs)
     unfolding is_known is_me unpack station_of
     known_here = ap (λ (t : Bool). eqb p (me xs) || t) f
 
-    pub info_stored : (a b : Work) (o : List ℕ) (t : Bool) → (not d.present || (eqb p (me xs) || y)) ≡ false → Tells (announce_data p (bytes_of (data_in d))) (work_of w xs) (work_of a xs) out o
+    pub info_stored : (a b : Work) (o : List ℕ) (t : Bool) → (eqb p (me xs) || y) ≡ false → Tells (announce_data p (bytes_of (data_in (Some d)))) (work_of w xs) (work_of a xs) out o
         → t ≡ has p (data_map_at peer_data_places (peer_data_part xs)) → ChangesAny (require 8 (t || ltb (get_or xs peer_data_count 0) peer_data_places)) a b
-        → (ys : List ℕ) → Changes (on (store_data p (bytes_of (data_in d)))) (work_of b xs) (work_of b ys) → Tells (insert_peer_info p (data_in d)) (work_of w xs) (work_of b ys) out o
+        → (ys : List ℕ) → Changes (on (store_data p (bytes_of (data_in (Some d))))) (work_of b xs) (work_of b ys) → Tells (insert_peer_info p (data_in (Some d))) (work_of w xs) (work_of b ys) out o
     info_stored a b o t n k₁ q k₂ ys k₃ =
-        some_info (work_of w xs) out p d (work_of b ys) o (is_given d (eqb p (me xs) || y) n)
-        (inserted _ _ _ _ _ _ _ (eqb p (me xs) || y) known_here (or_right (not d.present) _ n) (keeps a b b xs ys p _ (t || ltb (get_or xs peer_data_count 0) peer_data_places) v (fits_known xs p t v q) k₃ k₂) k₁)
+        some_info (work_of w xs) out p d (work_of b ys) o
+        (inserted _ _ _ _ _ _ _ (eqb p (me xs) || y) known_here n (keeps a b b xs ys p _ (t || ltb (get_or xs peer_data_count 0) peer_data_places) v (fits_known xs p t v q) k₃ k₂) k₁)
 
-  pub info_passed : y ≡ holds (lookup p (unpack xs).peer_data) (bytes_of (data_in d)) → Room (work_of w xs) out → (not d.present || (eqb p (me xs) || y)) ≡ true → Tells (insert_peer_info p (data_in d)) (work_of w xs) (work_of w xs) out out
+  pub info_passed : y ≡ holds (lookup p (unpack xs).peer_data) (bytes_of (data_in (Some d))) → Room (work_of w xs) out → (eqb p (me xs) || y) ≡ true → Tells (insert_peer_info p (data_in (Some d))) (work_of w xs) (work_of w xs) out out
   unfolding insert_data
   info_passed f v t =
-      split d.present
-      (λ h. some_info (work_of w xs) out p d (work_of w xs) out h
-      (tell_yes (is_known p (bytes_of (data_in d))) (known_here v.packed f) _ (subst (λ (b : Bool). (not b || (eqb p (me xs) || y)) ≡ true) h t) (telling v (unchanged (λ g. g) v.packed (λ ds o. refl)))))
-      (λ h. no_info (work_of w xs) out p d v h)
+      some_info (work_of w xs) out p d (work_of w xs) out
+      (tell_yes (is_known p (bytes_of (data_in (Some d)))) (known_here v.packed f) _ t (telling v (unchanged (λ g. g) v.packed (λ ds o. refl))))
 
 -- ---- what is forgotten
 
@@ -223,7 +214,7 @@ passive_counted xs p = sym (count_passive xs (of_passive xs p))
 module _ (w : Work) (xs ds out : List ℕ) (v : Fine (work_of w xs) ds out) where
   pub made : (a b c r : Work) (ys zs o : List ℕ) (i p : ℕ) → (leb (passive_view_capacity xs) (get_or xs passive_count 0) && not (eqb (get_or xs passive_count 0) 0)) ≡ true → i ≡ pick (get_or xs passive_count 0) (drop w.drawn ds) → p ≡ get_or (unpack xs).passive i 0
       → TellsAny (emit (notice (output_byte Evicted) p)) c r out o → Changes (forget_peer p) (work_of b ys) (work_of c zs) → Changes (on (shift_passive i)) (work_of a xs) (work_of b ys) → DrawsAny (draw_one_of (get_or xs passive_count 0)) w a ds
-      → Adds (record { work = r; evicted = Peer p }) zs ds o (make_room (run (work_of w xs) ds out)) (evicted (run (work_of w xs) ds out))
+      → Adds (record { work = r; evicted = Some p }) zs ds o (make_room (run (work_of w xs) ds out)) (evicted (run (work_of w xs) ds out))
   unfolding named_in run_of one_of to_draw
   made a b c r ys zs o i p h u l k₄ k₃ k₂ k₁ =
       let g = run (work_of w xs) ds out in
@@ -237,7 +228,7 @@ module _ (w : Work) (xs ds out : List ℕ) (v : Fine (work_of w xs) ds out) wher
         named = one_evicted g i p t j l;
       }
 
-  pub not_made : (leb (passive_view_capacity xs) (get_or xs passive_count 0) && not (eqb (get_or xs passive_count 0) 0)) ≡ false → Adds (record { work = w; evicted = Nobody }) xs ds out (make_room (run (work_of w xs) ds out)) (evicted (run (work_of w xs) ds out))
+  pub not_made : (leb (passive_view_capacity xs) (get_or xs passive_count 0) && not (eqb (get_or xs passive_count 0) 0)) ≡ false → Adds (record { work = w; evicted = None }) xs ds out (make_room (run (work_of w xs) ds out)) (evicted (run (work_of w xs) ds out))
   unfolding named_in run_of
   not_made h =
       let t : must_evict (run (work_of w xs) ds out).station ≡ false = sym (must_known xs v.ready.packed) ∙ h in
@@ -318,7 +309,7 @@ module _ (w a : Work) (xs ys ds out o : List ℕ) (p : ℕ) (d : Data) (t : Bool
   unfolding add_passive evicted_by
   added m zs o₂ k₂ = record { does = seq (enter_passive p) k₂.does (then_tell k₁ (still v)); named = k₂.named ∙ ap (evicted_for p) (k₁.same ds) }
 
-  pub not_entered : t ≡ false → Adds (record { work = a; evicted = Nobody }) ys ds o (add_passive p d (run (work_of w xs) ds out)) (evicted_by p d (run (work_of w xs) ds out))
+  pub not_entered : t ≡ false → Adds (record { work = a; evicted = None }) ys ds o (add_passive p d (run (work_of w xs) ds out)) (evicted_by p d (run (work_of w xs) ds out))
   unfolding enter_passive evicted_for named_in run_of
   not_entered h =
       added _ ys o (record { does = left _ _ (sym e ∙ h) (still (after_info w a xs ys ds out o v k₁)); named = sym (choose_no _ _ _ (sym e ∙ h)) })

@@ -2,11 +2,11 @@
 -- Assumes nothing.
 use Prim.Native.Nat.{ℕ, ◌+◌, ◌≤◌, ◌<◌}
 use mathlib.Core.Path.{◌≡◌, refl, sym, ap, ◌∙◌}
-use mathlib.Core.Bool.{Bool, true, false, ◌&&◌, ◌||◌}
+use mathlib.Core.Bool.{Bool, true, false, ◌||◌}
 use mathlib.Core.List.{List, [], ◌∷◌, ◌++◌}
 use native.Mathlib.Omega.{arith}
 use lib.ListN.{length, take, drop, get_or, set}
-use lib.Dec.{leb, eqb}
+use lib.Dec.{leb}
 use borrow.Rule.Slice.PartMut.{put_mid}
 use Rattle.base_lists.specs.Array.{pad}
 use Rattle.base_lists.specs.Lists.{choose, null, without_all}
@@ -17,16 +17,16 @@ use Rattle.base_util.specs.Chances.{pick}
 use Rattle.base_util.specs.Section.{part, items_at, ValidSet, HoldsSet, working_places}
 use Rattle.base_util.proofs.Sets.{set_as, set_then, set_stored}
 use Rattle.base_columns.specs.Columns.{numbers_at}
-use Rattle.spec_hyparview.specs.Station.{Station, Refill, is_alone, asked_outside}
+use Rattle.spec_hyparview.specs.Station.{Station, Refill, is_alone, is_spent, asked_outside}
 use Rattle.spec_hyparview.specs.Run.{Run, on, to_draw, one_of, draw_one_of, picked}
 use Rattle.spec_hyparview.specs.Sending.{send_neighbor}
 use Rattle.spec_hyparview.specs.Refill.{use_request, end_recovery, limit_short, skipped, candidates, ask_picked, ask_one, refill_limited, needs_none, refill_active_from_passive, begin_refill, start_refill}
 use Rattle.work.specs.declared.Work.{Work}
-use Rattle.hyparview_state.specs.Layout.{active_view_capacity, refill_kind, refill_requests, active_part, requests_part, active_count, active_places, requests_places}
-use Rattle.hyparview_state.specs.Unpack.{unpack, station_of, settings_at, PackedState}
+use Rattle.hyparview_state.specs.declared.RefillLimit.{RefillLimit}
+use Rattle.hyparview_state.specs.Layout.{active_view_capacity, active_part, requests_part, active_count, active_places, requests_places}
+use Rattle.hyparview_state.specs.Unpack.{unpack, station_of, settings_at, limit_at, refill_in, PackedState}
 use Rattle.hyparview_state.specs.Work.{Held, work_of, run, run_of, Changes, DrawsAny, Tells, Fine, Does}
 use Rattle.hyparview_state.proofs.Access.{of_active, count_active}
-use Rattle.hyparview_state.proofs.Limits.{says_spent}
 use Rattle.hyparview_state.proofs.Bridge.{by, still, then, then_tell, seq, taken, left, holds_at}
 use Rattle.hyparview_state.proofs.Any.{then_one_of}
 
@@ -123,12 +123,14 @@ module _ (skip from : List ℕ) (w : Work) (xs ds out : List ℕ) (t : Bool) (c 
 
 -- ---- whether one is asked at all
 
-pub none_needed : (xs t : List ℕ) → PackedState xs → HoldsSet working_places t (asked_outside (unpack xs)) → (leb (active_view_capacity xs) (get_or xs active_count 0 + get_or t working_places 0) || (eqb (refill_kind xs) 1 && eqb (refill_requests xs) 0)) ≡ needs_none (unpack xs)
+pub none_needed : (xs t : List ℕ) (l : RefillLimit) (b : Bool) → PackedState xs → HoldsSet working_places t (asked_outside (unpack xs)) → l ≡ limit_at xs → b ≡ is_spent (refill_in l)
+    → (leb (active_view_capacity xs) (get_or xs active_count 0 + get_or t working_places 0) || b) ≡ needs_none (unpack xs)
 unfolding needs_none unpack station_of settings_at
-none_needed xs t p h =
+none_needed xs t l b p h e q =
     let n : get_or xs active_count 0 ≡ length (items_at active_places (active_part xs)) = sym (count_active xs (of_active xs p)) in
     let asked : get_or t working_places 0 ≡ length (asked_outside (unpack xs)) = sym h.valid.counted ∙ ap length h.items in
-    λ i. leb (active_view_capacity xs) (n i + asked i) || says_spent xs i
+    let spent = q ∙ ap (λ (x : RefillLimit). is_spent (refill_in x)) e in
+    λ i. leb (active_view_capacity xs) (n i + asked i) || spent i
 
 module _ (skip : List ℕ) (w : Work) (xs ds out : List ℕ) (t : Bool) (v : Fine (work_of w xs) ds out) (e : t ≡ needs_none (unpack xs)) where
   pub not_needed : t ≡ true → Does (work_of w xs) ds out (refill_active_from_passive skip (run (work_of w xs) ds out))

@@ -1,5 +1,6 @@
 -- The records and requests of the code are those of the definition.
 -- Assumes nothing.
+use Rattle.std.specs.Prelude as prelude
 use Prim.Native.Nat.{ℕ, ◌+◌, ◌≤◌, ◌<◌}
 use mathlib.Core.Path.{◌≡◌, refl, sym, ap, ◌∙◌, subst}
 use mathlib.Core.Bool.{Bool, true, false, ◌||◌, or-true}
@@ -18,14 +19,14 @@ use Rattle.base_columns.specs.Columns.{numbers_at}
 use Rattle.base_peer.specs.Held.{node_in, data_in}
 use Rattle.base_peer.specs.declared.PeerData.{PeerData}
 use Rattle.base_peer.specs.Data.{Node}
-use Rattle.record_writer.specs.declared.Nodes.{Nodes}
-use Rattle.record_writer.specs.Nodes.{nodes_in, HoldsNodes}
+use Rattle.record_writer.specs.declared.nodes.Nodes.{Nodes}
+use Rattle.record_writer.specs.Nodes.{nodes_in}
 use Rattle.spec_hyparview.specs.Station.{is_requested, top_counter}
 use Rattle.spec_hyparview.specs.Run.{on, emit, require, node, message, flag, peer_infos, timer}
 use Rattle.spec_hyparview.specs.Sending.{join_to, join, send_nodes, send_shuffle_reply, reply_length, send_disconnect, request_counts, request_fits, note_request, count_request, open_request, neighbor_to, tell_request, send_neighbor, reply_neighbor}
 use Rattle.work.specs.declared.Work.{Work}
 use Rattle.hyparview_state.specs.Layout.{requests_part, shuffle_active_view_count, shuffle_passive_view_count, neighbor_request_timeout, next_neighbor_request, requests_at, requests_count, requests_places, requests_size}
-use Rattle.hyparview_state.specs.Unpack.{unpack, station_of, settings_at, own_at, PackedState}
+use Rattle.hyparview_state.specs.Unpack.{unpack, station_of, settings_at, PackedState}
 use Rattle.hyparview_state.specs.Work.{Held, work_of, run, run_of, Stateless, Changes, ChangesAny, DrawsAny, Room, Tells, TellsAny, Fine, Does}
 use Rattle.hyparview_state.proofs.Access.{of_settings, of_requests}
 use Rattle.base_timing.proofs.Ranges.{ranges}
@@ -47,25 +48,25 @@ room_drawn w a xs ds out v k = room_of (work_of a xs) ds out (fine_drawn w a xs 
 -- ---- records
 
 module _ (w r : Work) (xs out o : List ℕ) where
-  pub join_told : (p : ℕ) (d : PeerData) → Room (work_of w xs) out → d ≡ own_at xs → TellsAny (emit (message 0 p 0 0 0 (node_in (record { id = 0; «data» = d }) ∷ []))) w r out o
+  pub join_told : (p : ℕ) (d : prelude.Option PeerData) → Room (work_of w xs) out → data_in d ≡ (unpack xs).own_data → TellsAny (emit (message 0 p 0 0 0 (node_in (record { id = 0; «data» = d }) ∷ []))) w r out o
       → Tells (join p) (work_of w xs) (work_of r xs) out o
-  unfolding join join_to node_in run_of unpack station_of
-  join_told p d v e k = tell_by _ (λ ds. ap (λ (x : PeerData). emit (message 0 p 0 0 0 (node 0 (data_in x) ∷ [])) (run (work_of w xs) ds out)) (sym e)) (told_at xs v.packed _ k)
+  unfolding join join_to node_in run_of
+  join_told p d v e k = tell_by _ (λ ds i. emit (message 0 p 0 0 0 (node 0 (sym e i) ∷ [])) (run (work_of w xs) ds out)) (told_at xs v.packed _ k)
 
-  nodes_told : (to : ℕ) (ps : List ℕ) (ns : Nodes) → Room (work_of w xs) out → HoldsNodes ns (peer_infos (unpack xs) ps) → TellsAny (emit (message 3 to 0 0 0 (nodes_in ns))) w r out o
+  nodes_told : (to : ℕ) (ps : List ℕ) (ns : Nodes) → Room (work_of w xs) out → nodes_in ns ≡ peer_infos (unpack xs) ps → TellsAny (emit (message 3 to 0 0 0 (nodes_in ns))) w r out o
       → Tells (send_nodes to ps) (work_of w xs) (work_of r xs) out o
   unfolding send_nodes run_of
-  nodes_told to ps ns v h k = tell_by _ (λ ds. ap (λ (x : List Node). emit (message 3 to 0 0 0 x) (run (work_of w xs) ds out)) (sym h.holds)) (told_at xs v.packed _ k)
+  nodes_told to ps ns v h k = tell_by _ (λ ds. ap (λ (x : List Node). emit (message 3 to 0 0 0 x) (run (work_of w xs) ds out)) (sym h)) (told_at xs v.packed _ k)
 
-  pub set_told : (v : List ℕ) (n to : ℕ) (ns : Nodes) → Room (work_of w xs) out → ValidSet working_places v → n ≡ length (items_at working_places v) → HoldsNodes ns (peer_infos (unpack xs) (take n v)) → TellsAny (emit (message 3 to 0 0 0 (nodes_in ns))) w r out o
+  pub set_told : (v : List ℕ) (n to : ℕ) (ns : Nodes) → Room (work_of w xs) out → ValidSet working_places v → n ≡ length (items_at working_places v) → nodes_in ns ≡ peer_infos (unpack xs) (take n v) → TellsAny (emit (message 3 to 0 0 0 (nodes_in ns))) w r out o
       → Tells (send_nodes to (items_at working_places v)) (work_of w xs) (work_of r xs) out o
   set_told v n to ns q s e h k = subst (λ (l : List ℕ). Tells (send_nodes to l) (work_of w xs) (work_of r xs) out o) (lent_items v n s e) (nodes_told to (take n v) ns q h k)
 
-  neighbor_told : (p : ℕ) (high : Bool) (f : ℕ) (d : PeerData) → Room (work_of w xs) out → f ≡ choose high 1 0 → d ≡ own_at xs
+  neighbor_told : (p : ℕ) (high : Bool) (f : ℕ) (d : prelude.Option PeerData) → Room (work_of w xs) out → f ≡ choose high 1 0 → data_in d ≡ (unpack xs).own_data
       → TellsAny (emit (message 4 p f 0 0 (node_in (record { id = 0; «data» = d }) ∷ []))) w r out o
       → Tells (emit (neighbor_to (unpack xs).own_data high p)) (work_of w xs) (work_of r xs) out o
-  unfolding neighbor_to flag node_in unpack station_of
-  neighbor_told p high f d v e q k = tell_by _ (λ ds i. emit (message 4 p (sym e i) 0 0 (node 0 (data_in (sym q i)) ∷ [])) (run (work_of w xs) ds out)) (told_at xs v.packed _ k)
+  unfolding neighbor_to flag node_in
+  neighbor_told p high f d v e q k = tell_by _ (λ ds i. emit (message 4 p (sym e i) 0 0 (node 0 (sym q i) ∷ [])) (run (work_of w xs) ds out)) (told_at xs v.packed _ k)
 
   pub disconnected : (a : Work) (o₁ ds : List ℕ) (p : ℕ) (alive : Bool) (f : ℕ) → f ≡ choose alive 1 0
       → TellsAny (emit (message 5 p f 0 0 [])) a r o₁ o → Does (work_of a xs) ds o₁ (send_shuffle_reply p (shuffle_active_view_count xs + shuffle_passive_view_count xs) (run (work_of w xs) ds out))
@@ -74,7 +75,7 @@ module _ (w r : Work) (xs out o : List ℕ) where
   disconnected a o₁ ds p alive f q k d =
       by _ (λ i. emit (message 5 p (sym q i) 0 0 []) (send_shuffle_reply p (shuffle_active_view_count xs + shuffle_passive_view_count xs) (run (work_of w xs) ds out))) (then_tell_any _ k d)
 
-pub request_told : (w a r : Work) (xs out o₁ o : List ℕ) (p : ℕ) (high : Bool) (id f : ℕ) (d : PeerData) → Room (work_of w xs) out → f ≡ choose high 1 0 → d ≡ own_at xs
+pub request_told : (w a r : Work) (xs out o₁ o : List ℕ) (p : ℕ) (high : Bool) (id f : ℕ) (d : prelude.Option PeerData) → Room (work_of w xs) out → f ≡ choose high 1 0 → data_in d ≡ (unpack xs).own_data
     → TellsAny (emit (message 4 p f 0 0 (node_in (record { id = 0; «data» = d }) ∷ []))) w a out o₁
     → TellsAny (emit (timer (kind_byte PendingNeighborRequest) p (neighbor_request_timeout xs) id)) a r o₁ o
     → Tells (tell_request p high id) (work_of w xs) (work_of r xs) out o

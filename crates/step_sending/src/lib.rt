@@ -5,16 +5,15 @@ ghost use Rattle.std.specs.Prelude.{◌≡◌, ◌≤◌, length, take, drop};
 ghost use Rattle.base_lists.specs.Lists.{choose};
 ghost use Rattle.base_util.specs.Chances.{shuffle};
 ghost use Rattle.base_util.specs.Section.{working_places, items_at, ValidSet, ChangesSet};
-ghost use Rattle.record_writer.specs.Nodes.{HoldsNodes};
+ghost use Rattle.record_writer.specs.Nodes.{nodes_in};
 ghost use Rattle.spec_hyparview.specs.Run.{peer_infos, draw_shuffle};
 ghost use Rattle.spec_hyparview.specs.Sending.{join, send_shuffle_reply, send_disconnect, send_neighbor, reply_neighbor};
 ghost use Rattle.record.specs.Format.{most_nodes};
-ghost use Rattle.hyparview_state.specs.Layout.{words};
 ghost use Rattle.hyparview_state.specs.Unpack.{unpack, PackedState};
 ghost use Rattle.hyparview_state.specs.Work.{GivenRoom, Given, Says, Makes, DrawsAny, GivenRoomSeen, GivenSeen, MakesSeen, SaysSeen};
 
 use base_peer::{PeerId, PeerInfo};
-use hyparview_state::Layout;
+use hyparview_state::{Layout, Words};
 use record::{Flags, Kind, Message, Refusal};
 use record_writer::Nodes;
 use work::Work;
@@ -23,6 +22,7 @@ use work::Work;
 const MOST_REQUESTS: u64 = Layout::REQUESTS_PLACES as u64;
 
 // Neighbor and Disconnect each set one flag or none.
+#[tactic(auto, unfolding(base_lists::specs::Lists::choose))]
 fn flag_if(set: bool, flag: u8) -> u8
     ensures { result ≡ choose set flag 0 }
 {
@@ -30,35 +30,30 @@ fn flag_if(set: bool, flag: u8) -> u8
 }
 
 // Peers with the data that is held of them, in order, so that who learns of a peer can reach it.
-pub fn peer_infos(st: &[u64], ids: &[PeerId]) -> Nodes
-    requires st_len { length st.now ≡ words }
+pub fn peer_infos(st: &Words, ids: &[PeerId]) -> Nodes
     requires packed_state { PackedState st.now }
     requires ids_len_bound { length ids.now ≤ most_nodes }
-    ensures { HoldsNodes result (peer_infos (unpack st.now) ids.now) }
+    ensures { nodes_in result ≡ peer_infos (unpack st.now) ids.now }
 {
     let mut t = Nodes::new();
-    let mut i: usize = 0;
-    while i < ids.len() {
-        let p = ids[i];
-        i += 1;
-        let d = base_columns::get_data(
+    for &p in ids {
+        let data = base_columns::get_data(
             &st[Layout::PEER_DATA..Layout::PEER_DATA_END],
             Layout::PEER_DATA_PLACES,
             p,
         );
-        t = t.push(PeerInfo { id: p, data: d });
+        t.push(PeerInfo { id: p, data });
     }
     t
 }
 
 // Join has the station's own data, which the ForwardJoins that it sets off take further.
-pub fn join(w: Work, st: &[u64], out: &mut [u8], p: PeerId) -> Work
-    requires st_len { length st.now ≡ words }
+pub fn join(w: Work, st: &Words, out: &mut [u8], p: PeerId) -> Work
     requires given_room { GivenRoomSeen w st out }
     ensures { SaysSeen (join p) w result st out }
 {
-    let d = hyparview_state::own_data(st);
-    work::send_node(w, out, Message::JOIN, p, 0, 0, PeerInfo { id: 0, data: d })
+    let data = hyparview_state::own_data(st);
+    work::send_node(w, out, Message::JOIN, p, 0, 0, PeerInfo { id: 0, data })
 }
 
 // A working set, shuffled whole and then cut to `most`, as in the Rust: each peer has the same chance, and as many draws are used.
@@ -82,13 +77,12 @@ pub fn shuffle_and_cap(w: Work, draws: &[u32], most: usize, v: &mut [u64]) -> Wo
 // ShuffleReply with `len` peers: passive ones, and since a young station has few of them, neighbors to make up the number.
 pub fn send_shuffle_reply(
     w: Work,
-    st: &[u64],
+    st: &Words,
     draws: &[u32],
     out: &mut [u8],
     to: PeerId,
     len: usize,
 ) -> Work
-    requires st_len { length st.now ≡ words }
     requires given { GivenSeen w st draws out }
     requires len_le_most_nodes { len ≤ most_nodes }
     ensures { MakesSeen (send_shuffle_reply to len) w result st draws out }
@@ -119,20 +113,19 @@ pub fn send_shuffle_reply(
         to,
         0,
         0,
-        peer_infos(st, &v[..named]),
+        &peer_infos(st, &v[..named]),
     )
 }
 
 // The ShuffleReply before a Disconnect leaves the other one with peers to ask: it may have joined just now and know nobody else.
 pub fn send_disconnect(
     w: Work,
-    st: &[u64],
+    st: &Words,
     draws: &[u32],
     out: &mut [u8],
     p: PeerId,
     alive: bool,
 ) -> Work
-    requires st_len { length st.now ≡ words }
     requires given { GivenSeen w st draws out }
     ensures { MakesSeen (send_disconnect p alive) w result st draws out }
 {
@@ -146,8 +139,7 @@ pub fn send_disconnect(
 
 // Nothing while a Neighbor to p is open, else two stations could answer each other for ever (spec_hyparview/Sending `send_neighbor`).
 // Code 10 where no number is left for it, code 6 where a 33rd would be open; its timer ends the wait for an answer.
-pub fn send_neighbor(w: Work, st: &mut [u64], out: &mut [u8], p: PeerId, high: bool) -> Work
-    requires st_len { length st.old ≡ words }
+pub fn send_neighbor(w: Work, st: &mut Words, out: &mut [u8], p: PeerId, high: bool) -> Work
     requires given_room { GivenRoom w st out }
     ensures { Says (send_neighbor p high) w result st out }
 {
@@ -155,10 +147,10 @@ pub fn send_neighbor(w: Work, st: &mut [u64], out: &mut [u8], p: PeerId, high: b
         return w;
     }
     let id = st[Layout::NEXT_NEIGHBOR_REQUEST];
-    let a = work::require(w, Refusal::COUNTER, id < hyparview_state::TOP_COUNTER);
+    let a = work::require(w, Refusal::Counter, id < hyparview_state::TOP_COUNTER);
     let b = work::require(
         a,
-        Refusal::REQUESTS,
+        Refusal::Requests,
         st[Layout::REQUESTS_COUNT] < MOST_REQUESTS,
     );
     if b.code != 0 {
@@ -168,7 +160,7 @@ pub fn send_neighbor(w: Work, st: &mut [u64], out: &mut [u8], p: PeerId, high: b
     base_columns::insert_number(asked, Layout::REQUESTS_PLACES, p, id);
     st[Layout::NEXT_NEIGHBOR_REQUEST] = id + 1;
     let flags = flag_if(high, Flags::HIGH);
-    let d = hyparview_state::own_data(st);
+    let data = hyparview_state::own_data(st);
     let c = work::send_node(
         b,
         out,
@@ -176,7 +168,7 @@ pub fn send_neighbor(w: Work, st: &mut [u64], out: &mut [u8], p: PeerId, high: b
         p,
         flags,
         0,
-        PeerInfo { id: 0, data: d },
+        PeerInfo { id: 0, data },
     );
     let timeout = st[Layout::NEIGHBOR_REQUEST_TIMEOUT];
     work::schedule(c, out, Kind::PENDING_NEIGHBOR_REQUEST, p, timeout, id)
@@ -185,13 +177,12 @@ pub fn send_neighbor(w: Work, st: &mut [u64], out: &mut [u8], p: PeerId, high: b
 // A Neighbor answers a Neighbor; an answer is not answered again, and then `reply` is false.
 pub fn reply_neighbor(
     w: Work,
-    st: &mut [u64],
+    st: &mut Words,
     out: &mut [u8],
     reply: bool,
     p: PeerId,
     high: bool,
 ) -> Work
-    requires st_len { length st.old ≡ words }
     requires given_room { GivenRoom w st out }
     ensures { Says (reply_neighbor reply p high) w result st out }
 {

@@ -5,7 +5,6 @@ use mathlib.Core.Path.{◌≡◌, sym, ap, ◌∙◌}
 use mathlib.Core.Bool.{Bool, true, false, not, ◌&&◌, ◌||◌}
 use mathlib.Core.List.{List, [], ◌∷◌}
 use native.Mathlib.Omega.{arith}
-use lib.Dec.{eqb}
 use lib.ListN.{length, drop, get_or}
 use Rattle.base_lists.specs.Lists.{null, without_all}
 use Rattle.base_lists.specs.Array.{pad}
@@ -16,9 +15,9 @@ use Rattle.base_peer.specs.Data.{Node}
 use Rattle.record.specs.Read.{nodes_of}
 use Rattle.record.proofs.Nodes.{length_nodes_of}
 use Rattle.base_timing.specs.Timing.{next, expired}
-use Rattle.record_writer.specs.declared.Nodes.{Nodes}
-use Rattle.record_writer.specs.Nodes.{nodes_in, HoldsNodes}
-use Rattle.spec_hyparview.specs.Station.{Station, Refill, is_requested, is_short, is_last_hop}
+use Rattle.record_writer.specs.declared.nodes.Nodes.{Nodes}
+use Rattle.record_writer.specs.Nodes.{nodes_in}
+use Rattle.spec_hyparview.specs.Station.{Station, Refill, is_requested, is_short, is_last_hop, is_spent}
 use Rattle.spec_hyparview.specs.Run.{emit, to_draw, one_of, draw_one_of, picked, message}
 use Rattle.spec_hyparview.specs.Peers.{add_nodes, any_new}
 use Rattle.spec_hyparview.specs.Sending.{send_shuffle_reply}
@@ -26,11 +25,10 @@ use Rattle.spec_hyparview.specs.Refill.{few_requests, start_refill, refill_activ
 use Rattle.spec_hyparview.specs.Messages.{answers_shuffle, answer_shuffle, forward_shuffle, on_shuffle, stops_at_refusal, renews_limit, refill_with, after_reply, on_shuffle_reply}
 use Rattle.work.specs.declared.Work.{Work}
 use Rattle.hyparview_state.specs.Work.{work_of, run, run_of, DrawsAny, TellsAny, Fine, Does}
-use Rattle.hyparview_state.specs.Layout.{refill_kind, refill_requests, active_part, active_places}
+use Rattle.hyparview_state.specs.Layout.{active_part, active_places}
 use Rattle.hyparview_state.specs.declared.RefillLimit.{RefillLimit}
-use Rattle.hyparview_state.specs.Unpack.{unpack, station_of, refill_in}
+use Rattle.hyparview_state.specs.Unpack.{unpack, station_of, limit_at, refill_in}
 use Rattle.hyparview_state.proofs.Bridge.{by, still, seq_at, taken, left, holds_at, at_run}
-use Rattle.hyparview_state.proofs.Limits.{says_spent}
 use Rattle.hyparview_state.proofs.Any.{then_one_of, then_tell_any}
 
 -- ---- the neighbors that a Shuffle may go on to
@@ -53,14 +51,14 @@ module _ (w : Work) (xs ds out others : List ℕ) (ns : List Node) (origin ttl :
   unfolding forward_shuffle
   shuffle_kept h = taken _ _ (sym e ∙ h) (still v)
 
-  module _ (q u n i : ℕ) (x : Nodes) (c : n ≡ length others) (j : i ≡ pick n (drop w.drawn ds)) (p : q ≡ get_or others i 0) (y : u ≡ next ttl) (z : HoldsNodes x ns) where
+  module _ (q u n i : ℕ) (x : Nodes) (c : n ≡ length others) (j : i ≡ pick n (drop w.drawn ds)) (p : q ≡ get_or others i 0) (y : u ≡ next ttl) (z : nodes_in x ≡ ns) where
     picked_is : q ≡ picked others (run (work_of w xs) ds out)
     unfolding picked one_of to_draw run_of
     picked_is = p ∙ ap (λ (k : ℕ). get_or others k 0) (j ∙ ap (λ (k : ℕ). pick k (drop w.drawn ds)) c)
 
     shuffle_is : emit (message 2 (picked others (run (work_of w xs) ds out)) 0 origin (next ttl) ns) (draw_one_of (length others) (run (work_of w xs) ds out))
         ≡ emit (message 2 q 0 origin u (nodes_in x)) (draw_one_of n (run (work_of w xs) ds out))
-    shuffle_is = λ k. emit (message 2 (sym picked_is k) 0 origin (sym y k) (sym z.holds k)) (draw_one_of (sym c k) (run (work_of w xs) ds out))
+    shuffle_is = λ k. emit (message 2 (sym picked_is k) 0 origin (sym y k) (sym z k)) (draw_one_of (sym c k) (run (work_of w xs) ds out))
 
     pub shuffle_on : (a r : Work) (o : List ℕ) → t ≡ false
         → TellsAny (emit (message 2 q 0 origin u (nodes_in x))) a r out o
@@ -101,9 +99,11 @@ pub stops_known : (s : Station) (p : ℕ) (a b : Bool) → a ≡ is_requested p 
 unfolding stops_at_refusal
 stops_known s p a b x y = λ i. x i && not (y i)
 
-pub renews_known : (xs : List ℕ) (p : ℕ) (a new : Bool) → a ≡ is_requested p (unpack xs) → (not a && (new && (eqb (refill_kind xs) 1 && eqb (refill_requests xs) 0))) ≡ renews_limit p new (unpack xs)
-unfolding renews_limit
-renews_known xs p a new x = λ i. not (x i) && (new && says_spent xs i)
+pub renews_known : (xs : List ℕ) (p : ℕ) (a new t : Bool) (l : RefillLimit) → a ≡ is_requested p (unpack xs) → l ≡ limit_at xs → t ≡ is_spent (refill_in l) → (not a && (new && t)) ≡ renews_limit p new (unpack xs)
+unfolding renews_limit unpack station_of
+renews_known xs p a new t l x e q =
+    let spent = q ∙ ap (λ (x : RefillLimit). is_spent (refill_in x)) e in
+    λ i. not (x i) && (new && spent i)
 
 module _ (w r : Work) (xs ys ds out o : List ℕ) (renewed : Bool) where
   pub refilled_few : (limit : RefillLimit) → renewed ≡ true → refill_in limit ≡ few_requests → Does (work_of r ys) ds o (start_refill (refill_in limit) [] (run (work_of w xs) ds out))

@@ -5,12 +5,19 @@ use mathlib.Core.Path.{◌≡◌, refl, ap, ◌∙◌}
 use mathlib.Core.Bool.{Bool, true, false, ◌&&◌, ◌||◌}
 use mathlib.Core.List.{List, [], ◌∷◌}
 use native.Mathlib.Omega.{arith}
+use lib.ListN.{length, take, length-map}
+use Rattle.std.proofs.lemmas.List.{length-take-le}
+use Rattle.base_lists.proofs.Array.{length_pad}
+use Rattle.base_peer.specs.Held.{node_in}
+use Rattle.record_writer.specs.declared.nodes.Nodes.{Nodes}
+use Rattle.record_writer.specs.Nodes.{nodes_in}
+use Rattle.record_writer.specs.Blank.{blank}
 use lib.Dec.{leb, eqb}
 use borrow.Author.Tests.{eqb-true, leb-true}
 use Rattle.base_lists.specs.Lists.{choose}
 use Rattle.base_lists.proofs.Choice.{and_left, and_right}
 use Rattle.record.specs.declared.Header.{Header}
-use Rattle.record.specs.Format.{peer_length}
+use Rattle.record.specs.Format.{peer_length, most_nodes}
 use Rattle.record.specs.Read.{header_of, is_message, is_data, kind_ok, flags_ok, count_ok, peer_ok, fields_ok, header_ok, well_formed, node_at, nodes_of, nodes_of_by}
 use Rattle.record.proofs.Back.{parts}
 
@@ -48,6 +55,11 @@ head_few h e =
 -- an event has at most 32 nodes
 pub few_nodes : (b : List ℕ) (n : ℕ) → well_formed b ≡ true → n ≡ (header_of b).nodes → n ≤ 32
 few_nodes b n t e = omega (arith, e, head_few (header_of b) (parts peer_length b t).heads)
+
+-- as many nodes as the writer counts
+pub length_nodes : (t : Nodes) → length (nodes_in t) ≡ t.len
+unfolding nodes_in
+length_nodes t = length-map (take t.len t.items) node_in ∙ length-take-le t.len t.items (omega (arith, t.fits, ap length t.packed ∙ length_pad blank most_nodes (take t.len t.items)))
 
 pub or_more : (a b c : Bool) → (a || (b || c)) ≡ ((a || b) || c)
 or_more true b c = refl

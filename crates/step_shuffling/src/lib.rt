@@ -1,18 +1,17 @@
 // The two messages of a shuffle (the definition's `Messages`).
 #![tactic(auto)]
 
-ghost use Rattle.std.specs.Prelude.{◌≡◌, true, length};
+ghost use Rattle.std.specs.Prelude.{◌≡◌, true};
 ghost use Rattle.record.specs.Read.{well_formed, header_of, nodes_of};
-ghost use Rattle.record_writer.specs.Nodes.{HoldsNodes};
+ghost use Rattle.record_writer.specs.Nodes.{nodes_in};
 ghost use Rattle.spec_hyparview.specs.Peers.{add_nodes, any_new};
 ghost use Rattle.spec_hyparview.specs.Messages.{on_shuffle, on_shuffle_reply};
-ghost use Rattle.hyparview_state.specs.Layout.{words};
 ghost use Rattle.hyparview_state.specs.Work.{Given, run_met, Makes, GivenSeen, MakesSeen};
 ghost use Rattle.step_shuffling.specs.Passing.{pass_shuffle};
 
 use base_peer::PeerId;
 use base_timing::Ttl;
-use hyparview_state::{Layout, RefillLimit};
+use hyparview_state::{Layout, RefillLimit, Words};
 use record::Message;
 use record_writer::Nodes;
 use work::Work;
@@ -25,8 +24,7 @@ struct Learned {
 }
 
 // The n nodes of the event b become passive peers: shuffles keep that view a fresh sample of the swarm, for when neighbors fail.
-fn add_nodes(w: Work, st: &mut [u64], draws: &[u32], out: &mut [u8], b: &[u8], n: usize) -> Learned
-    requires st_len { length st.old ≡ words }
+fn add_nodes(w: Work, st: &mut Words, draws: &[u32], out: &mut [u8], b: &[u8], n: usize) -> Learned
     requires given { Given w st draws out }
     requires b_value { well_formed b.now ≡ true }
     requires n_value { n ≡ (header_of b.now).nodes }
@@ -35,31 +33,24 @@ fn add_nodes(w: Work, st: &mut [u64], draws: &[u32], out: &mut [u8], b: &[u8], n
 {
     let mut a = w;
     let mut fresh = false;
-    let mut i: usize = 0;
-    while i < n {
+    for i in 0..n {
         let x = record::peer_info_at(b, i);
-        fresh = fresh | step_peers::is_newcomer(st, x.id);
-        i += 1;
+        fresh |= step_peers::is_newcomer(st, x.id);
         let t = step_peers::add_passive(a, st, draws, out, x.id, x.data);
         a = t.work;
     }
-    Learned {
-        work: a,
-        fresh: fresh,
-    }
+    Learned { work: a, fresh }
 }
 
 // The n nodes of the event b, to be written again: on its walk a Shuffle keeps the nodes of its origin.
 fn event_nodes(b: &[u8], n: usize) -> Nodes
     requires b_value { well_formed b.now ≡ true }
     requires n_value { n ≡ (header_of b.now).nodes }
-    ensures { HoldsNodes result (nodes_of b.now 0 n) }
+    ensures { nodes_in result ≡ nodes_of b.now 0 n }
 {
     let mut t = Nodes::new();
-    let mut i: usize = 0;
-    while i < n {
-        t = t.push(record::peer_info_at(b, i));
-        i += 1;
+    for i in 0..n {
+        t.push(record::peer_info_at(b, i));
     }
     t
 }
@@ -67,7 +58,7 @@ fn event_nodes(b: &[u8], n: usize) -> Nodes
 // Not back to the sender, nor to the origin, which would shuffle with itself; where nobody else is left the Shuffle ends unanswered.
 fn pass_shuffle(
     w: Work,
-    st: &[u64],
+    st: &Words,
     draws: &[u32],
     out: &mut [u8],
     from: PeerId,
@@ -76,7 +67,6 @@ fn pass_shuffle(
     n: usize,
     ttl: u16,
 ) -> Work
-    requires st_len { length st.now ≡ words }
     requires given { GivenSeen w st draws out }
     requires b_value { well_formed b.now ≡ true }
     requires n_value { n ≡ (header_of b.now).nodes }
@@ -104,14 +94,14 @@ fn pass_shuffle(
         q,
         origin,
         left.0,
-        event_nodes(b, n),
+        &event_nodes(b, n),
     )
 }
 
 // A walk ends where its hops are used up, or where too few neighbors are left to go on; there it is answered.
 pub fn on_shuffle(
     w: Work,
-    st: &mut [u64],
+    st: &mut Words,
     draws: &[u32],
     out: &mut [u8],
     from: PeerId,
@@ -120,7 +110,6 @@ pub fn on_shuffle(
     n: usize,
     ttl: u16,
 ) -> Work
-    requires st_len { length st.old ≡ words }
     requires given { Given w st draws out }
     requires b_value { well_formed b.now ≡ true }
     requires n_value { n ≡ (header_of b.now).nodes }
@@ -139,14 +128,13 @@ pub fn on_shuffle(
 // (spec_hyparview/Messages `stops_at_refusal`, `renews_limit`).
 pub fn on_shuffle_reply(
     w: Work,
-    st: &mut [u64],
+    st: &mut Words,
     draws: &[u32],
     out: &mut [u8],
     from: PeerId,
     b: &[u8],
     n: usize,
 ) -> Work
-    requires st_len { length st.old ≡ words }
     requires given { Given w st draws out }
     requires b_value { well_formed b.now ≡ true }
     requires n_value { n ≡ (header_of b.now).nodes }
@@ -158,15 +146,10 @@ pub fn on_shuffle_reply(
     if requested & !hyparview_state::is_short(st) {
         return t.work;
     }
-    let none = [0u64; 0];
     // The limit on requests, which is spent, begins anew: the reply named a new peer and is not a refusal.
-    if !requested
-        & (t.fresh
-            & ((st[Layout::REFILL_KIND] == RefillLimit::REQUESTS_LEFT)
-                & (st[Layout::REFILL_REQUESTS] == 0)))
-    {
+    if !requested & (t.fresh & step_refill::is_spent(hyparview_state::limit_of(st))) {
         let few = RefillLimit::few_requests();
-        return step_refill::start_refill(t.work, st, draws, out, few, &none);
+        return step_refill::start_refill(t.work, st, draws, out, few, &[]);
     }
-    step_refill::refill_active_from_passive(t.work, st, draws, out, &none)
+    step_refill::refill_active_from_passive(t.work, st, draws, out, &[])
 }

@@ -1,14 +1,16 @@
 -- The timers of requests and joins.
 -- Assumes nothing.
+use Rattle.std.specs.Prelude as prelude
 use Prim.Native.Nat.{ℕ}
-use mathlib.Core.Path.{◌≡◌, refl, ap, ◌∙◌}
+use mathlib.Core.Path.{◌≡◌, refl, sym, ap, ◌∙◌}
 use mathlib.Core.Bool.{Bool, true, false}
 use mathlib.Core.List.{List, []}
 use lib.Dec.{eqb}
+use borrow.Author.Tests.{eq-eqb, ne_eqb, eqb-true, eqb-false}
+use Rattle.std.specs.Option.{option_eq}
+use Rattle.base_lists.proofs.Choice.{split}
 use Rattle.base_lists.specs.Maps.{lookup}
 use Rattle.base_columns.specs.Columns.{numbers_at}
-use Rattle.base_peer.specs.declared.Number.{Number}
-use Rattle.base_peer.specs.declared.Number.TheVariants.{Absent, Is}
 use Rattle.base_peer.specs.Maps.{number_in}
 use Rattle.spec_hyparview.specs.Run.{Run, on}
 use Rattle.spec_hyparview.specs.Peers.{drop_passive}
@@ -22,22 +24,23 @@ use Rattle.hyparview_state.specs.Unpack.{unpack, station_of}
 use Rattle.hyparview_state.specs.Work.{work_of, run, Changes, Room, Tells, Fine, Does}
 use Rattle.hyparview_state.proofs.Bridge.{unchanged, telling, tell_then, tell_yes, tell_no, still, then, seq, taken, left, holds_at}
 
-pub no_number : (n : ℕ) (m : Number) → m ≡ Absent → false ≡ is_number n (number_in m)
-unfolding is_number number_in
-no_number n m e = rw e
+eqb_swap : (a b : ℕ) → eqb a b ≡ eqb b a
+eqb_swap a b = split (eqb a b) (λ e. e ∙ sym (eq-eqb b a (sym (eqb-true a b e)))) (λ e. e ∙ sym (ne_eqb b a (λ q. eqb-false a b e (sym q))))
 
-pub same_number : (n k : ℕ) (m : Number) → m ≡ Is k → eqb n k ≡ is_number n (number_in m)
+-- the open number is the timer's
+number_is : (id : ℕ) (m : prelude.Option ℕ) → option_eq eqb m (prelude.Some id) ≡ is_number id (number_in m)
 unfolding is_number number_in
-same_number n k m e = rw e
+number_is id prelude.None = refl
+number_is id (prelude.Some k) = eqb_swap k id
 
-module _ (xs : List ℕ) (p id : ℕ) (m : Number) (t : Bool) (e : t ≡ is_number id (number_in m)) where
+module _ (xs : List ℕ) (p id : ℕ) (m : prelude.Option ℕ) (t : Bool) (e : t ≡ option_eq eqb m (prelude.Some id)) where
   pub request_said : number_in m ≡ lookup p (numbers_at requests_places (requests_part xs)) → t ≡ request_is p id (unpack xs)
   unfolding request_is unpack station_of
-  request_said h = e ∙ ap (is_number id) h
+  request_said h = e ∙ (number_is id m ∙ ap (is_number id) h)
 
   pub join_said : number_in m ≡ lookup p (numbers_at joins_places (joins_part xs)) → t ≡ join_is p id (unpack xs)
   unfolding join_is unpack station_of
-  join_said h = e ∙ ap (is_number id) h
+  join_said h = e ∙ (number_is id m ∙ ap (is_number id) h)
 
 -- a refill that skips nobody, after p was dropped
 module _ (w a b : Work) (xs ys zs ds out : List ℕ) (p : ℕ) (v : Fine (work_of w xs) ds out) (k₂ : Changes (drop_passive p) (work_of a ys) (work_of b zs)) (k₁ : Changes (on (drop_request p)) (work_of w xs) (work_of a ys)) where

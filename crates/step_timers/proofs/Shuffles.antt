@@ -1,11 +1,12 @@
 -- The shuffle and its timer.
 -- Assumes nothing.
+use Rattle.std.specs.Prelude as prelude
 use Prim.Native.Nat.{ℕ, ◌+◌, ◌*◌, ◌≤◌, ◌<◌, min}
 use mathlib.Core.Path.{◌≡◌, refl, sym, ap, ◌∙◌, subst}
 use mathlib.Core.Bool.{true, false}
 use mathlib.Core.List.{List, [], ◌∷◌, ◌++◌}
 use native.Mathlib.Omega.{arith}
-use lib.ListN.{length, take, drop, get_or, set, length-append}
+use lib.ListN.{length, take, drop, get_or, set, length-append, length-map}
 use Rattle.record.specs.Kinds.{DoShuffle, kind_byte}
 use Rattle.base_lists.specs.Lists.{null, without}
 use Rattle.base_util.specs.Chances.{pick}
@@ -15,18 +16,21 @@ use Rattle.base_peer.specs.declared.PeerData.{PeerData}
 use Rattle.base_peer.specs.Data.{Node}
 use Rattle.base_util.specs.Section.{items_at, ValidSet, HoldsSet, working_places}
 use Rattle.base_util.proofs.Sets.{set_length, set_then}
-use Rattle.base_peer.specs.Held.{node_in}
-use Rattle.record_writer.specs.declared.Nodes.{Nodes}
-use Rattle.record_writer.specs.Nodes.{nodes_in, HoldsNodes}
-use Rattle.record_writer.proofs.Ways.{length_nodes}
+use Rattle.base_peer.specs.Held.{data_in, node_in}
+use Rattle.record_writer.specs.declared.nodes.Nodes.{Nodes}
+use Rattle.record_writer.specs.Nodes.{nodes_in}
+use Rattle.record_writer.specs.Blank.{blank}
+use Rattle.record.specs.Format.{most_nodes}
+use Rattle.base_lists.proofs.Array.{length_pad}
+use Rattle.std.proofs.lemmas.List.{length-take-le}
 use Rattle.spec_hyparview.specs.Station.{Station, is_alone}
 use Rattle.spec_hyparview.specs.Setters.{set_next_interval}
-use Rattle.spec_hyparview.specs.Run.{Run, on, emit, draw, drawn, to_draw, one_of, draw_one_of, picked, shuffled, draw_shuffle, message, timer, peer_infos}
+use Rattle.spec_hyparview.specs.Run.{Run, on, emit, draw, drawn, to_draw, one_of, draw_one_of, picked, shuffled, draw_shuffle, message, timer, node, peer_infos}
 use Rattle.spec_hyparview.specs.Timers.{double_interval, schedule_shuffle, shuffle_nodes, send_shuffle, active_sample, passive_sample, shuffle_passive, shuffle_with, shuffle_any}
 use Rattle.work.specs.declared.Work.{Work}
 use Rattle.hyparview_state.specs.Layout as layout
 use Rattle.hyparview_state.specs.Layout.{next_shuffle_interval, shuffle_interval, me, shuffle_random_walk_length, shuffle_active_view_count, shuffle_passive_view_count}
-use Rattle.hyparview_state.specs.Unpack.{unpack, station_of, settings_at, own_at, PackedState, Becomes}
+use Rattle.hyparview_state.specs.Unpack.{unpack, station_of, settings_at, PackedState, Becomes}
 use Rattle.hyparview_state.specs.Work.{work_of, run, run_of, Changes, DrawsAny, Room, Tells, TellsAny, Fine, Does}
 use Rattle.hyparview_state.proofs.Access.{of_settings}
 use Rattle.hyparview_state.proofs.Fields.{put_next_interval}
@@ -77,22 +81,27 @@ unfolding peer_infos
 length_infos s [] = refl
 length_infos s (p ∷ ps) = omega (arith, length_infos s ps)
 
-pub place_named : (xs v : List ℕ) (n : ℕ) (ns : Nodes) → ValidSet working_places v → n ≡ length (items_at working_places v) → length (items_at working_places v) < working_places → HoldsNodes ns (peer_infos (unpack xs) (take n v)) → ns.len < working_places
-place_named xs v n ns s e f h = omega (arith, length_nodes ns h.valid, ap length h.holds, length_infos (unpack xs) (take n v), lent_count v n s e)
+-- as many nodes as the writer counts
+length_nodes : (t : Nodes) → length (nodes_in t) ≡ t.len
+unfolding nodes_in
+length_nodes t = length-map (take t.len t.items) node_in ∙ length-take-le t.len t.items (omega (arith, t.fits, ap length t.packed ∙ length_pad blank most_nodes (take t.len t.items)))
+
+pub place_named : (xs v : List ℕ) (n : ℕ) (ns : Nodes) → ValidSet working_places v → n ≡ length (items_at working_places v) → length (items_at working_places v) < working_places → nodes_in ns ≡ peer_infos (unpack xs) (take n v) → ns.len < working_places
+place_named xs v n ns s e f h = omega (arith, length_nodes ns, ap length h, length_infos (unpack xs) (take n v), lent_count v n s e)
 
 pub walk_fits : (xs : List ℕ) → PackedState xs → shuffle_random_walk_length xs ≤ longest_walk
 unfolding settings_at
 walk_fits xs v = (ranges (settings_at xs) (of_settings xs v)).shuffle_walk.most
 
-pub shuffle_told : (w r : Work) (xs out o v : List ℕ) (n to : ℕ) (named ns : Nodes) (d : PeerData) → Room (work_of w xs) out → ValidSet working_places v → n ≡ length (items_at working_places v) → d ≡ own_at xs
-    → HoldsNodes named (peer_infos (unpack xs) (take n v)) → HoldsNodes ns (nodes_in named ++ (node_in (record { id = me xs; «data» = d }) ∷ []))
+pub shuffle_told : (w r : Work) (xs out o v : List ℕ) (n to : ℕ) (named ns : Nodes) (d : prelude.Option PeerData) → Room (work_of w xs) out → ValidSet working_places v → n ≡ length (items_at working_places v) → data_in d ≡ (unpack xs).own_data
+    → nodes_in named ≡ peer_infos (unpack xs) (take n v) → nodes_in ns ≡ nodes_in named ++ (node_in (record { id = me xs; «data» = d }) ∷ [])
     → TellsAny (emit (message 2 to 0 (me xs) (shuffle_random_walk_length xs) (nodes_in ns))) w r out o
     → Tells (send_shuffle to (items_at working_places v)) (work_of w xs) (work_of r xs) out o
 unfolding send_shuffle shuffle_nodes node_in run_of unpack station_of settings_at
 shuffle_told w r xs out o v n to named ns d f s c q h e k =
-    let names : nodes_in named ≡ peer_infos (unpack xs) (items_at working_places v) = h.holds ∙ ap (peer_infos (unpack xs)) (lent_items v n s c) in
+    let names : nodes_in named ≡ peer_infos (unpack xs) (items_at working_places v) = h ∙ ap (peer_infos (unpack xs)) (lent_items v n s c) in
     tell_by {g = emit (message 2 to 0 (me xs) (shuffle_random_walk_length xs) (nodes_in ns))} (send_shuffle to (items_at working_places v))
-    (λ ds. ap (λ (x : List Node). emit (message 2 to 0 (me xs) (shuffle_random_walk_length xs) x) (run (work_of w xs) ds out)) (sym (e.holds ∙ (λ i. names i ++ (node_in (record { id = me xs; «data» = q i }) ∷ [])))))
+    (λ ds. ap (λ (x : List Node). emit (message 2 to 0 (me xs) (shuffle_random_walk_length xs) x) (run (work_of w xs) ds out)) (sym (e ∙ (λ i. names i ++ (node (me xs) (q i) ∷ [])))))
     (told_at xs f.packed _ k)
 
 -- ---- the peers that it names

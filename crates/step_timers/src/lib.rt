@@ -1,38 +1,24 @@
 // The timers of a request, of a join and of the shuffle (the definition's `Timers`).
 #![tactic(auto)]
 
-ghost use Rattle.std.specs.Prelude.{◌≡◌, length};
-ghost use Rattle.base_peer.specs.Maps.{number_in};
-ghost use Rattle.spec_hyparview.specs.Timers.{is_number, handle_pending_neighbor_timer, retry_join, schedule_shuffle, shuffle_any, handle_shuffle_timer};
-ghost use Rattle.hyparview_state.specs.Layout.{words};
+ghost use Rattle.spec_hyparview.specs.Timers.{handle_pending_neighbor_timer, retry_join, schedule_shuffle, shuffle_any, handle_shuffle_timer};
 ghost use Rattle.hyparview_state.specs.Work.{GivenRoom, Given, Says, Makes, GivenSeen, MakesSeen};
 
-use base_peer::{Number, PeerId, PeerInfo};
-use hyparview_state::Layout;
+use base_peer::{PeerId, PeerInfo};
+use hyparview_state::{Layout, Words};
 use record::{Kind, Message};
 use work::Work;
-
-// By its number a timer is told from that of an earlier request or join to the same peer.
-fn is_number(n: u64, m: Number) -> bool
-    ensures { result ≡ is_number n (number_in m) }
-{
-    match m {
-        Number::Absent => false,
-        Number::Is(k) => n == k,
-    }
-}
 
 // A peer that did not answer in time is taken as failed; a timer of another number was set for an earlier Neighbor, and is void.
 // What it means for an answer, which nobody answers, stands at the definition (spec_hyparview/Timers `request_failed`).
 pub fn handle_pending_neighbor_timer(
     w: Work,
-    st: &mut [u64],
+    st: &mut Words,
     draws: &[u32],
     out: &mut [u8],
     p: PeerId,
     id: u64,
 ) -> Work
-    requires st_len { length st.old ≡ words }
     requires given { Given w st draws out }
     ensures { Makes (handle_pending_neighbor_timer p id) w result st draws out }
 {
@@ -41,19 +27,17 @@ pub fn handle_pending_neighbor_timer(
         Layout::REQUESTS_PLACES,
         p,
     );
-    if is_number(id, m) {
+    if m == Some(id) {
         // It got no answer: p is dropped and another peer is asked.
         let a = hyparview_state::drop_request(w, st, p);
         let b = step_peers::drop_passive(a, st, p);
-        let none = [0u64; 0];
-        return step_refill::refill_active_from_passive(b, st, draws, out, &none);
+        return step_refill::refill_active_from_passive(b, st, draws, out, &[]);
     }
     w
 }
 
 // The timer of a join: one more Join where nothing was heard from p, as the first may have been lost without a sign.
-pub fn retry_join(w: Work, st: &mut [u64], out: &mut [u8], p: PeerId, id: u64) -> Work
-    requires st_len { length st.old ≡ words }
+pub fn retry_join(w: Work, st: &mut Words, out: &mut [u8], p: PeerId, id: u64) -> Work
     requires given_room { GivenRoom w st out }
     ensures { Says (retry_join p id) w result st out }
 {
@@ -62,7 +46,7 @@ pub fn retry_join(w: Work, st: &mut [u64], out: &mut [u8], p: PeerId, id: u64) -
         Layout::JOINS_PLACES,
         p,
     );
-    if is_number(id, m) {
+    if m == Some(id) {
         let a = hyparview_state::drop_join(w, st, p);
         return step_sending::join(a, st, out, p);
     }
@@ -71,8 +55,7 @@ pub fn retry_join(w: Work, st: &mut [u64], out: &mut [u8], p: PeerId, id: u64) -
 
 // The wait doubles since the first shuffles must fill a young passive view; it is jittered, else stations that started together
 // would go on shuffling all at once (spec_hyparview/Timers `schedule_shuffle`).
-pub fn schedule_shuffle(w: Work, st: &mut [u64], draws: &[u32], out: &mut [u8]) -> Work
-    requires st_len { length st.old ≡ words }
+pub fn schedule_shuffle(w: Work, st: &mut Words, draws: &[u32], out: &mut [u8]) -> Work
     requires given { Given w st draws out }
     ensures { Makes schedule_shuffle w result st draws out }
 {
@@ -89,8 +72,7 @@ pub fn schedule_shuffle(w: Work, st: &mut [u64], draws: &[u32], out: &mut [u8]) 
 }
 
 // Shuffle names some peers of each view, but not its receiver, which knows itself, and the station last, so that others learn of it.
-fn shuffle_any(w: Work, st: &[u64], draws: &[u32], out: &mut [u8]) -> Work
-    requires st_len { length st.now ≡ words }
+fn shuffle_any(w: Work, st: &Words, draws: &[u32], out: &mut [u8]) -> Work
     requires given { GivenSeen w st draws out }
     ensures { MakesSeen shuffle_any w result st draws out }
 {
@@ -119,24 +101,16 @@ fn shuffle_any(w: Work, st: &[u64], draws: &[u32], out: &mut [u8]) -> Work
         base_util::WORKING_PLACES,
     );
     let n = base_util::count(&named_peers, base_util::WORKING_PLACES);
-    let named = step_sending::peer_infos(st, &named_peers[..n]);
+    let mut named = step_sending::peer_infos(st, &named_peers[..n]);
     let me = st[Layout::ME];
     let own = hyparview_state::own_data(st);
+    named.push(PeerInfo { id: me, data: own });
     let ttl = st[Layout::SHUFFLE_RANDOM_WALK_LENGTH] as u16;
-    work::send_nodes(
-        b,
-        out,
-        Message::SHUFFLE,
-        to,
-        me,
-        ttl,
-        named.push(PeerInfo { id: me, data: own }),
-    )
+    work::send_nodes(b, out, Message::SHUFFLE, to, me, ttl, &named)
 }
 
 // The next shuffle is set even where there is nobody to shuffle with, or the station would never shuffle again.
-pub fn handle_shuffle_timer(w: Work, st: &mut [u64], draws: &[u32], out: &mut [u8]) -> Work
-    requires st_len { length st.old ≡ words }
+pub fn handle_shuffle_timer(w: Work, st: &mut Words, draws: &[u32], out: &mut [u8]) -> Work
     requires given { Given w st draws out }
     ensures { Makes handle_shuffle_timer w result st draws out }
 {

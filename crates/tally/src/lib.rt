@@ -4,11 +4,11 @@
 ghost use Rattle.std.specs.Prelude.{◌≡◌};
 ghost use Rattle.tally.specs.Counts.{counted, raise_one, enter, raised};
 
-use record::{HEADER, Header, Kind, Message};
+use record::{Header, Kind, Message, Records};
 
 // One count for each value of byte 1.
 #[repr(C)]
-#[derive(Clone, Copy)]
+#[derive(Clone, Copy, Default)]
 pub struct Tally {
     pub join: u64,
     pub forward_join: u64,
@@ -18,20 +18,11 @@ pub struct Tally {
     pub disconnect: u64,
 }
 
-// The last value of a count.
-const TOP: u64 = 18446744073709551615;
-
 // One more where the test holds; a count at 2^64 - 1 stays there.
 fn counted(test: bool, n: u64) -> u64
     ensures { result ≡ counted test n }
 {
-    if test {
-        if n < TOP {
-            return n + 1;
-        }
-        return n;
-    }
-    n
+    n.saturating_add(u64::from(test))
 }
 
 // One message more, of the kind that its byte 1 says.
@@ -65,21 +56,7 @@ pub fn raised(t: Tally, code: u32, out: &[u8]) -> Tally
     if code != 0 {
         return t;
     }
-    let mut r = t;
-    let mut rest = out;
-    while HEADER <= rest.len() {
-        let h = record::read_header(rest);
-        let n = h.size as usize;
-        if n == 0 {
-            return r;
-        }
-        r = enter(r, h);
-        if rest.len() < n {
-            return r;
-        }
-        rest = &rest[n..];
-    }
-    r
+    Records::of(out).fold(t, |t, (h, _)| enter(t, h))
 }
 
 // The lent tally becomes what it is after that event.

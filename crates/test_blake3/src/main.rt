@@ -2,6 +2,8 @@
 // What it must write is not ours: BLAKE3's own program b3sum 1.2.0 prints the same 32 bytes for each; 256 is the longest body, and 1,024 bytes are one chunk.
 #![tactic(auto)]
 
+use std::array;
+
 const CASES: usize = 18;
 
 const LENGTHS: [usize; CASES] = [
@@ -13,23 +15,13 @@ const CHUNK_LEN: usize = 1024;
 
 // 0, 1, .., 250, 0, 1, ..
 fn input() -> [u8; CHUNK_LEN] {
-    let mut b = [0u8; CHUNK_LEN];
-    let mut i: usize = 0;
-    while i < CHUNK_LEN {
-        b[i] = (i % 251) as u8;
-        i += 1;
-    }
-    b
+    array::from_fn(|i| (i % 251) as u8)
 }
 
 // The eight bytes of a number, lowest first.
 fn show_quarter(q: u64) {
-    let mut rest = q;
-    let mut i: usize = 0;
-    while i < 8 {
-        io::print_hex(1, rest % 256, 2);
-        rest = rest / 256;
-        i += 1;
+    for x in q.to_le_bytes() {
+        io::print_hex(1, x as u64, 2);
     }
 }
 
@@ -46,23 +38,18 @@ fn show_test(body: &[u8]) {
 fn show_hash(body: &[u8]) {
     io::print_decimal(1, body.len() as u64);
     io::write_all(1, b" ");
-    let h = blake3::hash(body);
-    show_quarter(h[0]);
-    show_quarter(h[1]);
-    show_quarter(h[2]);
-    show_quarter(h[3]);
+    for q in blake3::hash(body) {
+        show_quarter(q);
+    }
     show_test(body);
     io::write_all(1, b"\n");
 }
 
 fn main() {
     let body = input();
-    let mut i: usize = 0;
-    while i < CASES {
-        let n = LENGTHS[i];
+    for n in LENGTHS {
         if n <= CHUNK_LEN {
             show_hash(&body[..n]);
         }
-        i += 1;
     }
 }

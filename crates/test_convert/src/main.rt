@@ -1,12 +1,15 @@
 // Reads cases of the conversion (tools/make/convert) and writes for each the converted record in hex, where the code is 0, and a line with the code.
 #![tactic(auto)]
 
-ghost use Rattle.std.specs.Prelude.{◌≤◌, length};
+ghost use Rattle.std.specs.Prelude.{◌≤◌, length, IfOk};
 
-use record_convert::Converted;
+use record::Refusal;
 
 // As much output as a case may lend, and one byte more.
 const CASE_SPACE: usize = 65536;
+
+// The bytes before a case's record: the form, the room and the record's length.
+const CASE_HEAD: usize = 1 + 2 * record::SHORT;
 
 fn main() {
     let mut buffer = io::large_buffer();
@@ -16,21 +19,18 @@ fn main() {
 
 // Every case of the input, to the first that is cut off.
 fn show_cases(s: &[u8]) {
-    let mut at: usize = 0;
-    while at < s.len() {
-        let left = s.len() - at;
-        if left < 5 {
+    let mut rest = s;
+    // Over what is left, since a case has its length in it.
+    while CASE_HEAD <= rest.len() {
+        let (head, behind) = rest.split_at(CASE_HEAD);
+        let room = record::read_number(head, 1, record::SHORT) as usize;
+        let size = record::read_number(head, 3, record::SHORT) as usize;
+        if behind.len() < size {
             return;
         }
-        let room = record::read_number(s, at + 1, record::SHORT) as usize;
-        let size = record::read_number(s, at + 3, record::SHORT) as usize;
-        if left - 5 < size {
-            return;
-        }
-        let start = at + 5;
-        let end = start + size;
-        show_case(s[at], room, &s[start..end]);
-        at = end;
+        let (b, after) = behind.split_at(size);
+        show_case(head[0], room, b);
+        rest = after;
     }
 }
 
@@ -48,8 +48,8 @@ fn show_in(form: u8, b: &[u8], out: &mut [u8]) {
 }
 
 // To the new form where the byte is 0, otherwise to the old one.
-fn convert_to(form: u8, b: &[u8], out: &mut [u8]) -> Converted
-    ensures { result.written ≤ length out.old }
+fn convert_to(form: u8, b: &[u8], out: &mut [u8]) -> Result<usize, Refusal>
+    ensures { IfOk result (λ n. n ≤ length out.old) }
 {
     if form == 0 {
         return record_convert::old_to_new(b, out);
@@ -57,16 +57,23 @@ fn convert_to(form: u8, b: &[u8], out: &mut [u8]) -> Converted
     record_convert::new_to_old(b, out)
 }
 
-fn show_result(r: Converted, out: &[u8])
-    requires { r.written ≤ length out.now }
+fn show_result(r: Result<usize, Refusal>, out: &[u8])
+    requires { IfOk r (λ n. n ≤ length out.now) }
 {
-    let written = r.written;
-    if r.code == 0 {
-        show_hex(&out[..written]);
+    match r {
+        Ok(n) => {
+            show_hex(&out[..n]);
+            show_cleared(0, &out[n..]);
+        }
+        Err(why) => show_cleared(u32::from(why), out),
     }
-    if cleared(&out[written..]) {
+}
+
+// The answer, where the bytes behind the record are cleared.
+fn show_cleared(code: u32, rest: &[u8]) {
+    if cleared(rest) {
         io::write_all(1, b"= ");
-        io::print_decimal(1, r.code as u64);
+        io::print_decimal(1, code as u64);
         io::write_all(1, b"\n");
     } else {
         io::write_all(1, b"not cleared\n");
@@ -74,21 +81,12 @@ fn show_result(r: Converted, out: &[u8])
 }
 
 fn cleared(s: &[u8]) -> bool {
-    let mut i: usize = 0;
-    while i < s.len() {
-        if s[i] != 0 {
-            return false;
-        }
-        i += 1;
-    }
-    true
+    s.iter().all(|&x| x == 0)
 }
 
 fn show_hex(s: &[u8]) {
-    let mut i: usize = 0;
-    while i < s.len() {
-        io::print_hex(1, s[i] as u64, 2);
-        i += 1;
+    for &x in s {
+        io::print_hex(1, x as u64, 2);
     }
     io::write_all(1, b"\n");
 }

@@ -3,7 +3,7 @@
 
 ghost use Rattle.record.specs.Answers.{Found};
 
-use record::{Answer, Event, Header};
+use record::Header;
 
 fn main() {
     let mut buffer = io::large_buffer();
@@ -13,31 +13,26 @@ fn main() {
 
 // Every record of the input, to the first that is cut off.
 fn show_records(s: &[u8]) {
-    let mut at: usize = 0;
-    while at < s.len() {
-        let left = s.len() - at;
-        if left < 2 {
+    let mut rest = s;
+    // Over what is left, since a record has its length in front.
+    while record::SHORT <= rest.len() {
+        let size = record::read_number(rest, 0, record::SHORT) as usize;
+        let end = record::SHORT + size;
+        if rest.len() < end {
             return;
         }
-        let size = record::read_number(s, at, record::SHORT) as usize;
-        if left - 2 < size {
-            return;
-        }
-        let start = at + 2;
-        let end = start + size;
-        show_record(&s[start..end]);
-        at = end;
+        show_record(&rest[record::SHORT..end]);
+        rest = &rest[end..];
     }
 }
 
 fn show_record(b: &[u8]) {
-    let answer = record::read(b);
-    match answer {
-        Answer::Record(h) => {
+    match record::read(b) {
+        Some(h) => {
             show_header(h);
             show_nodes(b, h);
         }
-        Answer::Malformed => {
+        None => {
             io::write_all(1, b"malformed");
         }
     }
@@ -66,33 +61,28 @@ fn show_header(h: Header) {
 fn show_nodes(b: &[u8], h: Header)
     requires { Found b.now h }
 {
-    let n = h.nodes as usize;
-    let mut i: usize = 0;
-    while i < n {
+    for i in 0..h.nodes as usize {
         let e = record::node(b, i);
         io::write_all(1, b" node");
         word(e.id);
         word(e.present as u64);
         word(e.len as u64);
         show_data(record::node_data(b, e));
-        i += 1;
     }
 }
 
 fn show_data(s: &[u8]) {
-    let mut i: usize = 0;
-    while i < s.len() {
-        word(s[i] as u64);
-        i += 1;
+    for &x in s {
+        word(x as u64);
     }
 }
 
 fn show_code(b: &[u8]) {
     io::write_all(1, b" code");
-    let answer = record::read_event(b);
-    match answer {
-        Event::Refused(code) => word(code as u64),
-        Event::Record(_) => word(0),
-    }
+    let code = match record::read_event(b) {
+        Ok(_) => 0,
+        Err(r) => u32::from(r),
+    };
+    word(code as u64);
     io::write_all(1, b"\n");
 }

@@ -1,19 +1,16 @@
 // Standard input holds inputs of the run program one after another, each with its length in 4 bytes in front; standard output gets the text of each, ended by an empty line.
 #![tactic(auto)]
 
-use run_listing::Shown;
-
 // Space for the text of one input.
 const TEXT_SPACE: usize = 262144;
 
 // The text of one input; one that does not fit is named, and not cut off.
 fn show_listing(b: &[u8], text: &mut [u8]) {
-    let shown = run_listing::run(b, text);
-    match shown {
-        Shown::Bytes(n) => {
+    match run_listing::run(b, text) {
+        Some(n) => {
             io::write_all(1, &text[..n]);
         }
-        Shown::TooShort => {
+        None => {
             io::write_all(1, b"! a text that does not fit\n");
         }
     }
@@ -50,16 +47,11 @@ const LENGTH_BYTES: usize = 4;
 const MOST_INPUTS: usize = 1000000;
 
 fn main() {
-    let mut space = [0u8; LENGTH_BYTES];
-    let head: &mut [u8] = &mut space;
-    let mut buffer = [0u8; run_input::MOST_BYTES + 1];
-    let bytes: &mut [u8] = &mut buffer;
+    let mut head = [0u8; LENGTH_BYTES];
+    let mut bytes = [0u8; run_input::MOST_BYTES + 1];
     let mut text = [0u8; TEXT_SPACE];
-    let mut left = MOST_INPUTS;
-    while left > 0 {
-        if next_input(head, bytes, &mut text) {
-            left -= 1;
-        } else {
+    for _ in 0..MOST_INPUTS {
+        if !next_input(&mut head, &mut bytes, &mut text) {
             return;
         }
     }

@@ -42,15 +42,9 @@ fn cut_off() {
 
 // The tally after every case of the input, from no message on; a case that is cut off is named.
 fn show_tallies(s: &[u8]) {
-    let mut t = Tally {
-        join: 0,
-        forward_join: 0,
-        shuffle: 0,
-        shuffle_reply: 0,
-        neighbor: 0,
-        disconnect: 0,
-    };
+    let mut t = Tally::default();
     let mut rest = s;
+    // Over what is left, since a case has its length in it.
     while HEAD <= rest.len() {
         let size = record::read_number(rest, 0, record::U32_BYTES) as usize;
         let code = record::read_number(rest, CODE, record::U32_BYTES) as u32;

@@ -4,7 +4,7 @@
 ghost use Rattle.std.specs.Prelude.{◌≡◌, length};
 ghost use Rattle.test_timer.specs.Call.{timer_call_bytes};
 
-use timer_map::{Id, Timer};
+use timer_map::Timer;
 
 // What a call is; any other number is a new queue.
 const INSERT: u64 = 0;
@@ -35,36 +35,26 @@ const MOST_CALLS: usize = 100000000;
 
 // One line: each number and a space.
 fn show_line(ws: &[u64]) {
-    let mut i: usize = 0;
-    while i < ws.len() {
-        io::print_decimal(1, ws[i]);
+    for &w in ws {
+        io::print_decimal(1, w);
         io::write_all(1, b" ");
-        i += 1;
     }
     io::write_all(1, b"\n");
-}
-
-fn mark(b: bool) -> u64 {
-    if b {
-        return 1;
-    }
-    0
 }
 
 fn show_insert(q: &mut [u64], b: &[u8])
     requires { length b.now ≡ timer_call_bytes }
 {
-    let id = Id(0, 0, 0, 0);
     let item = Timer {
         kind: record::read_number(b, KIND, record::NUMBER_BYTES),
         peer: record::read_number(b, PEER_AT, record::NUMBER_BYTES),
         number: record::read_number(b, NUMBER, record::NUMBER_BYTES),
-        id: id,
+        ..Timer::default()
     };
     let time = record::read_number(b, TIME, record::NUMBER_BYTES);
     let delay = record::read_number(b, DELAY, record::NUMBER_BYTES);
     let code = timer_map::timer_map_insert(q, time, delay, item);
-    let line = [INSERT, code as u64];
+    let line = [INSERT, u64::from(code)];
     show_line(&line);
 }
 
@@ -73,10 +63,10 @@ fn show_pop(q: &mut [u64], limit: u64) {
     let e = p.entry;
     let x = e.item;
     let id = x.id;
-    let line = [
+    show_line(&[
         POP,
-        p.code as u64,
-        mark(p.found),
+        u64::from(p.code),
+        u64::from(p.found),
         e.time,
         x.kind,
         x.peer,
@@ -85,19 +75,18 @@ fn show_pop(q: &mut [u64], limit: u64) {
         id.1,
         id.2,
         id.3,
-    ];
-    show_line(&line);
+    ]);
 }
 
 fn show_first(q: &[u64]) {
     let f = timer_map::timer_map_first(q);
-    let line = [FIRST, f.code as u64, mark(f.found), f.time];
+    let line = [FIRST, u64::from(f.code), u64::from(f.found), f.time];
     show_line(&line);
 }
 
 fn show_len(q: &[u64]) {
     let n = timer_map::timer_map_len(q);
-    let line = [LEN, n.code as u64, n.count];
+    let line = [LEN, u64::from(n.code), n.count];
     show_line(&line);
 }
 
@@ -111,8 +100,8 @@ fn show_event(q: &mut [u64], limit: u64) {
     let p = timer_events::timer_map_pop_event(q, limit, out);
     let line = [
         EVENT,
-        p.code as u64,
-        mark(p.found),
+        u64::from(p.code),
+        u64::from(p.found),
         p.time,
         record::read_number(out, 0, record::NUMBER_BYTES),
         record::read_number(out, 8, record::NUMBER_BYTES),
@@ -124,7 +113,7 @@ fn show_event(q: &mut [u64], limit: u64) {
 
 fn show_new(q: &mut [u64], what: u64) {
     let code = timer_map::timer_map_new(q);
-    let line = [what, code as u64];
+    let line = [what, u64::from(code)];
     show_line(&line);
 }
 
@@ -133,27 +122,14 @@ fn call(q: &mut [u64], b: &[u8])
 {
     let what = record::read_number(b, 0, record::NUMBER_BYTES);
     let time = record::read_number(b, TIME, record::NUMBER_BYTES);
-    if what == INSERT {
-        show_insert(q, b);
-        return;
+    match what {
+        INSERT => show_insert(q, b),
+        POP => show_pop(q, time),
+        FIRST => show_first(q),
+        LEN => show_len(q),
+        EVENT => show_event(q, time),
+        _ => show_new(q, what),
     }
-    if what == POP {
-        show_pop(q, time);
-        return;
-    }
-    if what == FIRST {
-        show_first(q);
-        return;
-    }
-    if what == LEN {
-        show_len(q);
-        return;
-    }
-    if what == EVENT {
-        show_event(q, time);
-        return;
-    }
-    show_new(q, what);
 }
 
 // The next call; false where standard input has none.
@@ -173,11 +149,8 @@ fn main() {
     let q: &mut [u64] = &mut words;
     let mut space = [0u8; CALL];
     let b: &mut [u8] = &mut space;
-    let mut left = MOST_CALLS;
-    while left > 0 {
-        if next_call(q, b) {
-            left -= 1;
-        } else {
+    for _ in 0..MOST_CALLS {
+        if !next_call(q, b) {
             return;
         }
     }

@@ -7,17 +7,28 @@ use trace_replay::TraceStart;
 // The bytes of a history's head.
 const HISTORY_HEAD: usize = 32;
 
-fn start_of(head: &[u8]) -> TraceStart {
-    TraceStart {
-        room: run_input::number(head, 1) as usize,
-        next_neighbor_request: run_input::from_halves(
-            run_input::number(head, 2),
-            run_input::number(head, 3),
-        ),
-        next_join: run_input::from_halves(run_input::number(head, 4), run_input::number(head, 5)),
-        passes_alone: run_input::number(head, 6),
-        passes_short: run_input::number(head, 7),
-    }
+// What a history starts with, and how long its input is, of the numbers of its head.
+fn start_of(head: &[u8]) -> (TraceStart, usize) {
+    let mut numbers = [0u32; HISTORY_HEAD / 4];
+    run_input::read_numbers(head, &mut numbers);
+    let [
+        size,
+        room,
+        request_low,
+        request_high,
+        join_low,
+        join_high,
+        passes_alone,
+        passes_short,
+    ] = numbers;
+    let start = TraceStart {
+        room: room as usize,
+        next_neighbor_request: run_input::from_halves(request_low, request_high),
+        next_join: run_input::from_halves(join_low, join_high),
+        passes_alone,
+        passes_short,
+    };
+    (start, size as usize)
 }
 
 // One history, whose input is as long as the lent bytes; false where standard input has not so many.
@@ -37,8 +48,7 @@ fn next_history(head: &mut [u8], bytes: &mut [u8]) -> bool {
     if n < head.len() {
         return false;
     }
-    let start = start_of(head);
-    let size = run_input::number(head, 0) as usize;
+    let (start, size) = start_of(head);
     if bytes.len() < size {
         return false;
     }
@@ -49,15 +59,10 @@ fn next_history(head: &mut [u8], bytes: &mut [u8]) -> bool {
 const MOST_HISTORIES: usize = 1000000;
 
 fn main() {
-    let mut space = [0u8; HISTORY_HEAD];
-    let head: &mut [u8] = &mut space;
-    let mut buffer = [0u8; run_input::MOST_BYTES + 1];
-    let bytes: &mut [u8] = &mut buffer;
-    let mut left = MOST_HISTORIES;
-    while left > 0 {
-        if next_history(head, bytes) {
-            left -= 1;
-        } else {
+    let mut head = [0u8; HISTORY_HEAD];
+    let mut bytes = [0u8; run_input::MOST_BYTES + 1];
+    for _ in 0..MOST_HISTORIES {
+        if !next_history(&mut head, &mut bytes) {
             return;
         }
     }

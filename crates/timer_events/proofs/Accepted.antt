@@ -16,7 +16,7 @@ use Rattle.record.specs.Read.{header_of, header_of_by, is_timer, well_formed}
 use Rattle.record.specs.InForm.{InForm, header_in, header_in_by}
 use Rattle.record.specs.Walk.{whole_length, records_in}
 use Rattle.record.specs.Answers.{answer}
-use Rattle.record.specs.declared.Answer.TheVariants as Answers
+use Rattle.std.specs.Prelude.{Some, None}
 use Rattle.record.specs.declared.Header.{Header}
 use Rattle.record.proofs.Format.{length_encode}
 use Rattle.record.proofs.Forth.{header_read, well_formed_encode}
@@ -71,7 +71,7 @@ module _ (e : Rec) (rest : List ℕ) (f : InForm e) where
   starts =
       choose_no _ _ _ (le-ltb (length b) (whole_length b) fits)
       ∙ ap (λ (l : List ℕ). started_by (answer l)) cut
-      ∙ ap started_by (choose_yes (well_formed (encode e)) (Answers.Record (header_of (encode e))) Answers.Malformed (well_formed_encode e f))
+      ∙ ap started_by (choose_yes (well_formed (encode e)) (Some (header_of (encode e))) None (well_formed_encode e f))
       ∙ ap started (header_read e f)
 
   one_ok : All Ok (timer_of b)

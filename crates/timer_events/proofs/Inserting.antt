@@ -5,25 +5,26 @@ use mathlib.Core.Path.{◌≡◌, refl, sym, ap, ◌∙◌, subst}
 use mathlib.Core.Bool.{Bool, true, false, ◌&&◌}
 use mathlib.Core.List.{List, [], ◌∷◌, ◌++◌, append_assoc, append-nil, flat_map}
 use native.Mathlib.Omega.{arith}
-use lib.ListN.{length, take, drop, length-append}
-use lib.Seq.{take-append_seam, length-take-le}
+use lib.ListN.{length, take, length-append}
+use lib.Seq.{take-append_seam}
 use lib.Dec.{leb, eqb}
 use borrow.Author.Tests.{lt-ltb, le-ltb, eq-eqb, ne_eqb}
 use Rattle.base_lists.specs.Lists.{choose}
 use Rattle.base_lists.proofs.Choice.{by_choice, split, choose_yes, choose_no}
 use Rattle.record.specs.declared.Header.{Header}
-use Rattle.record.specs.declared.Answer.{Answer}
-use Rattle.record.specs.declared.Answer.TheVariants as Answers
-use Rattle.record.specs.Format.{header_length}
 use Rattle.record.specs.Read.{header_of, is_timer}
 use Rattle.record.specs.Answers.{answer}
 use Rattle.record.specs.Walk.{whole_length, records_in}
-use Rattle.record.proofs.Walk.{size_is, records_few, taken_none, taken_one, taken_next, taken_last}
-use Rattle.timer_map.specs.Entries.{Put, insert_timer}
+use Rattle.record.proofs.Walk.{size_is}
+use Rattle.timer_map.specs.Entries.{Put, timer_ok, insert_timer}
 use Rattle.timer_map.specs.Words.{queue_count, entries_of, queue_ok, pack_queue, SoundQueue}
-use Rattle.timer_map.specs.Calls.{PutWords, packed_put}
+use Rattle.std.specs.Prelude.{Option, Some, None, Result, Ok, Err}
+use Rattle.std.specs.Result.{is_err}
+use Rattle.timer_map.specs.Calls.{PutWords, packed_put, code_in}
+use Rattle.timer_map.specs.declared.QueueRefusal.{QueueRefusal}
 use Rattle.timer_map.specs.declared.TimerMapEntry.{TimerMapEntry}
 use Rattle.timer_map.proofs.Pack.{entries_pack}
+use Rattle.timer_map.proofs.Ways.{insert_malformed, some_number}
 use Rattle.timer_map.proofs.Kept.{Good, good_insert, good_sound, sound_good, Inserts, refused, done, inserts}
 use Rattle.timer_events.specs.declared.ScheduleTimer.{ScheduleTimer}
 use Rattle.timer_events.specs.Records.{no_start, started, started_by, schedule_of, timer_of, timers_in, insert_all, all_or_none, insert_records, records_inserted}
@@ -31,20 +32,21 @@ use Rattle.timer_events.specs.Records.{no_start, started, started_by, schedule_o
 -- ---- the timer of one record
 
 module _ (n : ℕ) (b : List ℕ) where
-  pub short_start : (r : ScheduleTimer) → length b < n → r ≡ no_start → r ≡ schedule_of n b
+  pub short_start : length b < n → no_start ≡ schedule_of n b
   unfolding schedule_of
-  short_start r h e = e ∙ sym (choose_yes _ _ _ (lt-ltb (length b) n h))
+  short_start h = sym (choose_yes _ _ _ (lt-ltb (length b) n h))
 
-  pub read_start : (r : ScheduleTimer) (a : Answer) (h : Header) → n ≤ length b → a ≡ answer (take n b) → a ≡ Answers.Record h → r ≡ started h → r ≡ schedule_of n b
+  -- what was read of the first n bytes
+  pub read_there : (a : Option Header) (part : List ℕ) → part ≡ take (n - 0) b → a ≡ answer part → a ≡ answer (take n b)
+  read_there a part e p = let z : n - 0 ≡ n = omega arith in p ∙ ap answer (e ∙ ap (λ (m : ℕ). take m b) z)
+
+  pub read_start : (r : ScheduleTimer) (a : Option Header) (h : Header) → n ≤ length b → a ≡ answer (take n b) → a ≡ Some h → r ≡ started h → r ≡ schedule_of n b
   unfolding schedule_of started_by
   read_start r a h l p q e = e ∙ sym (choose_no _ _ _ (le-ltb (length b) n l) ∙ ap started_by (sym p ∙ q))
 
-  pub no_record : (r : ScheduleTimer) (a : Answer) → n ≤ length b → a ≡ answer (take n b) → a ≡ Answers.Malformed → r ≡ no_start → r ≡ schedule_of n b
+  pub no_record : (a : Option Header) → n ≤ length b → a ≡ answer (take n b) → a ≡ None → no_start ≡ schedule_of n b
   unfolding schedule_of started_by
-  no_record r a l p q e = e ∙ sym (choose_no _ _ _ (le-ltb (length b) n l) ∙ ap started_by (sym p ∙ q))
-
-pub part_long : (n : ℕ) (b : List ℕ) → n ≤ length b → n ≡ length (take n b)
-part_long n b h = sym (length-take-le n b h)
+  no_record a l p q = sym (choose_no _ _ _ (le-ltb (length b) n l) ∙ ap started_by (sym p ∙ q))
 
 -- ---- one after the other
 
@@ -113,6 +115,11 @@ module _ (ws b : List ℕ) (h : Header) (time : ℕ) (v : SoundQueue ws) (e : h 
       let u : is_timer (header_of b) ≡ true = sym (ap is_timer e) ∙ t in
       p ∙ ap packed_put (sym (one_insert time x (entries_of ws)) ∙ ap (λ (y : ScheduleTimer). insert_all time (y ∷ []) (entries_of ws)) k ∙ ap (λ (l : List ScheduleTimer). insert_all time l (entries_of ws)) (sym (choose_yes _ _ _ u)))
 
+  -- what starts no timer is refused
+  pub put_none : no_start ≡ schedule_of h.size b → (leb 1 h.kind && leb h.kind 4) ≡ true → record { code = 3; words = ws } ≡ packed_put (insert_all time (timer_of b) (entries_of ws))
+  unfolding packed_put timer_ok
+  put_none q t = put_timer no_start (words_of 3 ws) (ap (words_of 3) v.is ∙ sym (ap packed_put (insert_malformed time 0 no_start.item (entries_of ws) refl))) q t
+
   pub put_other : (leb 1 h.kind && leb h.kind 4) ≡ false → record { code = 0; words = ws } ≡ packed_put (insert_all time (timer_of b) (entries_of ws))
   unfolding timer_of is_timer insert_all packed_put
   put_other t =
@@ -122,68 +129,56 @@ module _ (ws b : List ℕ) (h : Header) (time : ℕ) (v : SoundQueue ws) (e : h 
 -- ---- the loop
 
 -- The timers of `rest` are to come, and q has those before them.
-pub record Inserting (time : ℕ) (whole : PutWords) (q₀ q rest : List ℕ) : Type 0 where
+pub record Inserting (time : ℕ) (whole : PutWords) (q rest : List ℕ) : Type 0 where
   pub sound : SoundQueue q
-  pub first : length q₀ ≡ 513
   pub same : whole ≡ packed_put (insert_all time (timers_in rest) (entries_of q))
 
-pub inserting_start : (time : ℕ) (q out : List ℕ) → SoundQueue q → Inserting time (packed_put (insert_all time (timers_in out) (entries_of q))) q q out
-inserting_start time q out v = record { sound = v; first = v.long; same = refl }
-
-module _ (time : ℕ) (whole : PutWords) (q₀ q rest : List ℕ) (v : Inserting time whole q₀ q rest) where
-  pub inserting_long : length q ≡ length q₀
-  inserting_long = v.sound.long ∙ sym v.first
-
+module _ (time : ℕ) (whole : PutWords) (q rest : List ℕ) (v : Inserting time whole q rest) where
   by_records : (bs : List (List ℕ)) → records_in rest ≡ bs → whole ≡ packed_put (insert_all time (flat_map timer_of bs) (entries_of q))
   unfolding timers_in
   by_records bs e = v.same ∙ ap (λ (x : List (List ℕ)). packed_put (insert_all time (flat_map timer_of x) (entries_of q))) e
 
-  ends : records_in rest ≡ [] → record { code = 0; words = q } ≡ whole
+  pub inserting_end : records_in rest ≡ [] → record { code = 0; words = q } ≡ whole
   unfolding packed_put insert_all flat_map
-  ends e = ap (words_of 0) v.sound.is ∙ sym (by_records [] e)
+  inserting_end e = ap (words_of 0) v.sound.is ∙ sym (by_records [] e)
 
-  pub inserting_few : length rest < header_length → record { code = 0; words = q } ≡ whole
-  inserting_few h = ends (records_few rest h)
+  -- the next record is b, and its timer is put in
+  module _ (b more : List ℕ) (r : records_in rest ≡ b ∷ records_in more) (code : ℕ) (q' : List ℕ) (e : record { code = code; words = q' } ≡ packed_put (insert_all time (timer_of b) (entries_of q))) where
+    step : whole ≡ packed_put (next time (timers_in more) (insert_all time (timer_of b) (entries_of q)))
+    unfolding flat_map timers_in
+    step = by_records (b ∷ records_in more) r ∙ ap packed_put (insert_all_append time (timer_of b) (flat_map timer_of (records_in more)) (entries_of q))
 
-  module _ (h : Header) (is : h ≡ header_of rest) where
-    pub inserting_none : h.size ≡ 0 → record { code = 0; words = q } ≡ whole
-    inserting_none e = ends (taken_none rest h is e)
+    code_is : code ≡ (insert_all time (timer_of b) (entries_of q)).code
+    unfolding packed_put
+    code_is = ap (λ (y : PutWords). y.code) e
 
-    module _ (code : ℕ) (q' : List ℕ) (e : record { code = code; words = q' } ≡ packed_put (insert_all time (timer_of rest) (entries_of q))) (z : h.size ≡ 0 → ⊥) (m : header_length ≤ length rest) where
-      step : (bs : List (List ℕ)) → records_in rest ≡ rest ∷ bs → whole ≡ packed_put (next time (flat_map timer_of bs) (insert_all time (timer_of rest) (entries_of q)))
-      unfolding flat_map
-      step bs r = by_records (rest ∷ bs) r ∙ ap packed_put (insert_all_append time (timer_of rest) (flat_map timer_of bs) (entries_of q))
+    words_is : q' ≡ pack_queue (insert_all time (timer_of b) (entries_of q)).entries
+    unfolding packed_put
+    words_is = ap (λ (y : PutWords). y.words) e
 
-      code_is : code ≡ (insert_all time (timer_of rest) (entries_of q)).code
-      unfolding packed_put
-      code_is = ap (λ (y : PutWords). y.code) e
+    pub inserting_refused : (code ≡ 0 → ⊥) → record { code = code; words = q' } ≡ whole
+    unfolding next
+    inserting_refused n = e ∙ sym (step ∙ ap packed_put (choose_no _ _ _ (ne_eqb _ 0 (λ o. n (code_is ∙ o)))))
 
-      words_is : q' ≡ pack_queue (insert_all time (timer_of rest) (entries_of q)).entries
-      unfolding packed_put
-      words_is = ap (λ (y : PutWords). y.words) e
+    held : entries_of q' ≡ (insert_all time (timer_of b) (entries_of q)).entries
+    held = ap entries_of words_is ∙ entries_pack _
 
-      pub inserting_refused : (code ≡ 0 → ⊥) → record { code = code; words = q' } ≡ whole
-      unfolding next
-      inserting_refused n = e ∙ sym (step _ (taken_one rest h is m z) ∙ ap packed_put (choose_no _ _ _ (ne_eqb _ 0 (λ o. n (code_is ∙ o)))))
+    pub inserting_next : code ≡ 0 → Inserting time whole q' more
+    unfolding next
+    inserting_next c = record {
+      sound = subst SoundQueue (sym words_is) (good_sound _ (good_all time (timer_of b) (entries_of q) (sound_good q v.sound)));
+      same = step ∙ ap packed_put (choose_yes _ _ _ (eq-eqb _ 0 (sym code_is ∙ c))) ∙ ap (λ (l : List TimerMapEntry). packed_put (insert_all time (timers_in more) l)) (sym held);
+    }
 
-      held : entries_of q' ≡ (insert_all time (timer_of rest) (entries_of q)).entries
-      held = ap entries_of words_is ∙ entries_pack _
+-- what an answer's code is
 
-      kept : SoundQueue q'
-      kept = subst SoundQueue (sym words_is) (good_sound _ (good_all time (timer_of rest) (entries_of q) (sound_good q v.sound)))
+pub ok_code : (r : Result (Unit {0}) QueueRefusal) → is_err r ≡ false → code_in r ≡ 0
+ok_code (Ok x) e = refl
+ok_code (Err why) e = cc
 
-      goes_on : code ≡ 0 → (bs : List (List ℕ)) → records_in rest ≡ rest ∷ bs → whole ≡ packed_put (insert_all time (flat_map timer_of bs) (entries_of q'))
-      unfolding next
-      goes_on c bs r =
-          step bs r ∙ ap packed_put (choose_yes _ _ _ (eq-eqb _ 0 (sym code_is ∙ c))) ∙ ap (λ (l : List TimerMapEntry). packed_put (insert_all time (flat_map timer_of bs) l)) (sym held)
-
-      pub inserting_last : code ≡ 0 → length rest < h.size → record { code = 0; words = q' } ≡ whole
-      unfolding packed_put insert_all flat_map
-      inserting_last c l = ap (words_of 0) kept.is ∙ sym (goes_on c [] (taken_last rest h is m z l))
-
-      pub inserting_next : code ≡ 0 → Inserting time whole q₀ q' (take (length rest - h.size) (drop h.size rest))
-      unfolding timers_in
-      inserting_next c = record { sound = kept; first = v.first; same = goes_on c _ (taken_next rest h is m z) }
+pub err_code : (r : Result (Unit {0}) QueueRefusal) → is_err r ≡ true → code_in r ≡ 0 → ⊥
+err_code (Ok x) e z = cc
+err_code (Err why) e z = some_number why z
 
 -- ---- all or none
 
@@ -223,9 +218,9 @@ module _ (ws out : List ℕ) (time : ℕ) (v : SoundQueue ws) (code : ℕ) (q : 
   all_put c = ap (λ (n : ℕ). words_of n q) (sym c) ∙ e ∙ ap packed_put (sym (choose_yes (eqb (insert_all time (timers_in out) (entries_of ws)).code 0) (insert_all time (timers_in out) (entries_of ws)) (record { code = (insert_all time (timers_in out) (entries_of ws)).code; entries = entries_of ws }) (eq-eqb _ 0 (sym all_code ∙ c))))
 
 module _ (ws out : List ℕ) (time : ℕ) (b : Bool) (e : b ≡ queue_ok ws) where
-  pub records_asked : (r : PutWords) → b ≡ true → r ≡ packed_put (insert_records time out (entries_of ws)) → r ≡ records_inserted time out ws
+  pub records_asked : (k c : ℕ) (after : List ℕ) → b ≡ true → k ≡ c → record { code = c; words = after } ≡ packed_put (insert_records time out (entries_of ws)) → record { code = k; words = after } ≡ records_inserted time out ws
   unfolding records_inserted
-  records_asked r t p = p ∙ sym (choose_yes _ _ _ (sym e ∙ t))
+  records_asked k c after t q p = ap (λ (n : ℕ). words_of n after) q ∙ p ∙ sym (choose_yes _ _ _ (sym e ∙ t))
 
   pub records_broken : b ≡ false → record { code = 2; words = ws } ≡ records_inserted time out ws
   unfolding records_inserted

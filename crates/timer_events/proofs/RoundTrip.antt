@@ -20,7 +20,7 @@ use Rattle.record.specs.Read.{fixed_size, header_of, header_of_by, is_message, i
 use Rattle.record.specs.InForm.{InForm, NodesInFormBy, header_in, header_in_by}
 use Rattle.record.specs.Answers.{answer}
 use Rattle.record.specs.declared.Header.{Header}
-use Rattle.record.specs.declared.Answer.TheVariants as Answers
+use Rattle.std.specs.Prelude.{Some, None}
 use Rattle.record.proofs.Back.{in_form_back, parts}
 use Rattle.record.proofs.Forth.{header_read, well_formed_encode, rec_of_encode}
 use Rattle.record.proofs.Format.{length_encode}
@@ -218,8 +218,8 @@ reads_out e out bytes h k w p n =
 read_whole : (b : List ℕ) → well_formed b ≡ true → schedule_of (length b) b ≡ started (header_of b)
 unfolding schedule_of started_by answer
 read_whole b w =
-    choose_no _ _ _ (le-ltb (length b) (length b) (omega arith)) ∙ ap (λ (l : List ℕ). started_by (choose (well_formed l) (Answers.Record (header_of l)) Answers.Malformed)) (take-length b)
-    ∙ ap started_by (choose_yes (well_formed b) (Answers.Record (header_of b)) Answers.Malformed w)
+    choose_no _ _ _ (le-ltb (length b) (length b) (omega arith)) ∙ ap (λ (l : List ℕ). started_by (choose (well_formed l) (Some (header_of l)) None)) (take-length b)
+    ∙ ap started_by (choose_yes (well_formed b) (Some (header_of b)) None w)
 
 all_bytes : (b : List ℕ) → all_under 256 b ≡ true → Bytes b
 unfolding all_under

@@ -1,14 +1,12 @@
 -- Document 02, S-1: all timer records of an output, put into the queue at once.
 -- Assumes nothing.
-use Rattle.std.specs.Prelude.{ℕ, length, take, ltb, eqb}
+use Rattle.std.specs.Prelude.{Option, Some, None, ℕ, length, take, ltb, eqb}
 use mathlib.Core.List.{List, [], ◌∷◌, flat_map}
 use Rattle.base_lists.specs.Lists.{choose}
 use Rattle.record.specs.Read.{header_of, is_timer}
 use Rattle.record.specs.Walk.{whole_length, records_in}
 use Rattle.record.specs.Answers.{answer}
 use Rattle.record.specs.declared.Header.{Header}
-use Rattle.record.specs.declared.Answer.{Answer}
-use Rattle.record.specs.declared.Answer.TheVariants as Answers
 use Rattle.timer_map.specs.Entries.{Put, insert_timer}
 use Rattle.timer_map.specs.Words.{entries_of, queue_ok}
 use Rattle.timer_map.specs.Calls.{PutWords, packed_put}
@@ -24,9 +22,9 @@ abbrev pub started : Header → ScheduleTimer
 started h = record { delay = h.second; item = record { kind = h.kind; peer = h.peer; number = h.number; id = record { 0 = 0; 1 = 0; 2 = 0; 3 = 0 } } }
 
 -- of what the reader answers
-unfoldable pub started_by : Answer → ScheduleTimer
-started_by (Answers.Record h) = started h
-started_by Answers.Malformed = no_start
+unfoldable pub started_by : Option Header → ScheduleTimer
+started_by (Some h) = started h
+started_by None = no_start
 
 -- the timer that the first n bytes start; what is no record starts no timer
 unfoldable pub schedule_of : ℕ → List ℕ → ScheduleTimer

@@ -1,5 +1,4 @@
-pub mod Walk
-pub mod Stores
+pub mod Chunks
 pub mod Order
 pub mod Pack
 pub mod Ways

@@ -7,7 +7,7 @@ use mathlib.Core.List.{List, [], ◌∷◌}
 use native.Mathlib.Omega.{arith}
 use lib.ListN.{length, get_or}
 use lib.Dec.{ltb, eqb}
-use borrow.Author.Tests.{ltb-true, ltb-false, le-ltb, eq-eqb, ne_eqb, eqb-true, eqb-false}
+use borrow.Author.Tests.{ltb-true, ltb-false, lt-ltb, le-ltb, eq-eqb, ne_eqb, eqb-true, eqb-false}
 use Rattle.base_lists.specs.Lists.{choose, index_of}
 use Rattle.base_lists.proofs.Choice.{split, choose_yes, choose_no}
 use Rattle.timer_map.specs.Entries.{due_times, least, smallest, soonest, first_entry, no_queue_entry}
@@ -67,11 +67,10 @@ seeks b m i (x ∷ xs) =
     })
 
 -- from the first time on, the search finds the first of the smallest
-pub seek_is : (x : ℕ) (xs : List ℕ) → seek 0 x 0 (x ∷ xs) ≡ index_of (smallest (x ∷ xs)) (x ∷ xs)
-unfolding seek smallest choose
+pub seek_is : (x : ℕ) (xs : List ℕ) → seek 0 x 1 xs ≡ index_of (smallest (x ∷ xs)) (x ∷ xs)
+unfolding smallest
 seek_is x xs =
     let s : Seeks 0 x 1 xs = seeks 0 x 1 xs in
-    rw (le-ltb x x (omega arith))
     (split (eqb (least x xs) x)
     (λ u. let z : least x xs ≡ x = eqb-true (least x xs) x u in s.old z ∙ rw z (here_first x xs))
     (λ u. let z : least x xs ≡ x → ⊥ = eqb-false (least x xs) x u in s.new (omega (arith, least_le x xs, z)) ∙ there_first (least x xs) x xs z))
@@ -84,21 +83,15 @@ pub record Seeking (ws : List ℕ) (n whole best i : ℕ) : Type 0 where
   pub under : best < n
   pub same : whole ≡ seek best (get_or ws (1 + 8 * best) 0) i (due_times (queue_entries_at ws (1 + 8 * i) (n - i)))
 
--- the search from the first time on
-begun : (ws : List ℕ) (j : ℕ) → soonest (queue_entries_at ws 1 (suc j)) ≡ seek 0 (get_or ws 1 0) 0 (due_times (queue_entries_at ws 1 (suc j)))
+-- the search from the second time on
+begun : (ws : List ℕ) (j : ℕ) → soonest (queue_entries_at ws 1 (suc j)) ≡ seek 0 (get_or ws 1 0) 1 (due_times (queue_entries_at ws 9 j))
 unfolding soonest due_times queue_entries_at queue_entry_at
 begun ws j = sym (seek_is (get_or ws 1 0) (due_times (queue_entries_at ws 9 j)))
 
-pub seek_start : (ws : List ℕ) (n : ℕ) → 1 + 8 * n ≤ length ws → 0 < n → Seeking ws n (soonest (queue_entries_at ws 1 n)) 0 0
+pub seek_start : (ws : List ℕ) (n : ℕ) → 1 + 8 * n ≤ length ws → 0 < n → Seeking ws n (soonest (queue_entries_at ws 1 n)) 0 1
 seek_start ws n h z =
     let k : n ≡ suc (n - 1) = omega arith in
-    let m : suc (n - 1) ≡ n - 0 = omega arith in
-    record {
-      low = omega arith;
-      room = h;
-      under = z;
-      same = ap (λ (j : ℕ). soonest (queue_entries_at ws 1 j)) k ∙ begun ws (n - 1) ∙ ap (λ (j : ℕ). seek 0 (get_or ws 1 0) 0 (due_times (queue_entries_at ws 1 j))) m;
-    }
+    record { low = omega arith; room = h; under = z; same = ap (λ (j : ℕ). soonest (queue_entries_at ws 1 j)) k ∙ begun ws (n - 1) }
 
 -- one time more
 taken : (ws : List ℕ) (b m i j at : ℕ) → seek b m i (due_times (queue_entries_at ws at (suc j))) ≡ choose (ltb (get_or ws at 0) m) (seek i (get_or ws at 0) (i + 1) (due_times (queue_entries_at ws (at + 8) j))) (seek b m (i + 1) (due_times (queue_entries_at ws (at + 8) j)))
@@ -106,19 +99,19 @@ unfolding seek due_times queue_entries_at queue_entry_at
 taken ws b m i j at = refl
 
 module _ (ws : List ℕ) (n whole best i : ℕ) (v : Seeking ws n whole best i) where
-  pub seek_next : (r : ℕ) → r ≡ choose (ltb (get_or ws (1 + 8 * i) 0) (get_or ws (1 + 8 * best) 0)) i best → i < n → Seeking ws n whole r (i + 1)
-  seek_next r e h =
+  seek_next : i < n → whole ≡ choose (ltb (get_or ws (1 + 8 * i) 0) (get_or ws (1 + 8 * best) 0)) (seek i (get_or ws (1 + 8 * i) 0) (i + 1) (due_times (queue_entries_at ws (1 + 8 * (i + 1)) (n - (i + 1))))) (seek best (get_or ws (1 + 8 * best) 0) (i + 1) (due_times (queue_entries_at ws (1 + 8 * (i + 1)) (n - (i + 1)))))
+  seek_next h =
       let k : n - i ≡ suc (n - (i + 1)) = omega arith in
       let p : 1 + 8 * i + 8 ≡ 1 + 8 * (i + 1) = omega arith in
       let m : ℕ = get_or ws (1 + 8 * best) 0 in
-      let s : whole ≡ choose (ltb (get_or ws (1 + 8 * i) 0) m) (seek i (get_or ws (1 + 8 * i) 0) (i + 1) (due_times (queue_entries_at ws (1 + 8 * (i + 1)) (n - (i + 1))))) (seek best m (i + 1) (due_times (queue_entries_at ws (1 + 8 * (i + 1)) (n - (i + 1))))) =
       v.same ∙ ap (λ (j : ℕ). seek best m i (due_times (queue_entries_at ws (1 + 8 * i) j))) k ∙ taken ws best m i (n - (i + 1)) (1 + 8 * i)
-      ∙ ap (λ (at : ℕ). choose (ltb (get_or ws (1 + 8 * i) 0) m) (seek i (get_or ws (1 + 8 * i) 0) (i + 1) (due_times (queue_entries_at ws at (n - (i + 1))))) (seek best m (i + 1) (due_times (queue_entries_at ws at (n - (i + 1)))))) p in
-      split (ltb (get_or ws (1 + 8 * i) 0) m)
-      (λ t. let z : r ≡ i = e ∙ choose_yes _ i best t in
-      record { low = omega arith; room = v.room; under = omega (arith, z); same = s ∙ choose_yes _ _ _ t ∙ rw z refl })
-      (λ t. let z : r ≡ best = e ∙ choose_no _ i best t in
-      record { low = omega arith; room = v.room; under = omega (arith, z, v.under); same = s ∙ choose_no _ _ _ t ∙ rw z refl })
+      ∙ ap (λ (at : ℕ). choose (ltb (get_or ws (1 + 8 * i) 0) m) (seek i (get_or ws (1 + 8 * i) 0) (i + 1) (due_times (queue_entries_at ws at (n - (i + 1))))) (seek best m (i + 1) (due_times (queue_entries_at ws at (n - (i + 1)))))) p
+
+  pub seek_takes : i < n → get_or ws (1 + 8 * i) 0 < get_or ws (1 + 8 * best) 0 → Seeking ws n whole i (i + 1)
+  seek_takes h l = record { low = omega arith; room = v.room; under = h; same = seek_next h ∙ choose_yes _ _ _ (lt-ltb _ _ l) }
+
+  pub seek_keeps : i < n → get_or ws (1 + 8 * best) 0 ≤ get_or ws (1 + 8 * i) 0 → Seeking ws n whole best (i + 1)
+  seek_keeps h l = record { low = omega arith; room = v.room; under = v.under; same = seek_next h ∙ choose_no _ _ _ (le-ltb _ _ l) }
 
   pub seek_end : n ≤ i → (best ≡ whole) × (best < n)
   unfolding seek due_times queue_entries_at

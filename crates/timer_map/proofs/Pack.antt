@@ -3,17 +3,18 @@
 use Prim.Native.Nat.{ℕ, zero, suc, ◌+◌, ◌*◌, ◌-◌, ◌≤◌, ◌<◌}
 use mathlib.Core.Path.{◌≡◌, refl, sym, ap, ◌∙◌, subst}
 use mathlib.Core.Bool.{true}
-use mathlib.Core.List.{List, [], ◌∷◌, ◌++◌, append_assoc}
+use mathlib.Core.List.{List, [], ◌∷◌, ◌++◌, append_assoc, append-nil}
 use native.Mathlib.Nat.{add-zero}
 use native.Mathlib.Omega.{arith}
 use lib.ListN.{length, take, drop, get_or, set, replicate, length-append, length-drop, length-replicate, take-append-drop, replicate-append-replicate}
-use lib.Seq.{take_at, drop_at, split_at, length-take-le, take-add, drop-drop, drop-cons, get_or-drop, get_or-append-add}
+use lib.Seq.{paste, take_at, drop_at, split_at, length-take-le, take-add, drop-drop, drop-cons, get_or-drop, get_or-append-add}
+use borrow.Rule.Slice.PartMut.{put_mid}
+use Rattle.std.proofs.lemmas.List.{drop_all}
+use Rattle.std.proofs.lemmas.List.Edits.{paste_all}
 use lib.Dec.{eqb, leb}
 use borrow.Author.Tests.{eqb-true, eq-eqb, leb-true, le-leb}
 use Rattle.base_lists.specs.Lists.{shift_remove}
-use Rattle.base_lists.specs.Bytes.{overwrite}
 use Rattle.base_lists.specs.Tests.{every}
-use Rattle.base_lists.proofs.Bytes.{overwrite_is}
 use Rattle.base_lists.proofs.Choice.{and_left, and_right}
 use Rattle.base_lists.proofs.Tests.{both_true}
 use Rattle.timer_map.specs.Entries.{queue_entry_ok, no_queue_entry}
@@ -191,19 +192,19 @@ fewer n h =
     ap (λ (k : ℕ). drop 8 (zero_words k)) e ∙ ap (drop 8) (sym (replicate-append-replicate 8 (n - 8) 0)) ∙ drop_at (zero_words 8) (zero_words (n - 8)) 8 refl
 
 put_row : (es : List TimerMapEntry) (e : TimerMapEntry) → length es < 64
-    → overwrite (pack_queue es) (1 + 8 * length es) (queue_row e) ≡ length es ∷ (queue_rows es ++ queue_row e ++ replicate (512 - 8 * length es - 8) 0)
-unfolding pack_queue queue_row
+    → take (1 + 8 * length es) (pack_queue es) ++ (queue_row e ++ drop (1 + 8 * length es + 8) (pack_queue es)) ≡ length es ∷ (queue_rows es ++ queue_row e ++ replicate (512 - 8 * length es - 8) 0)
+unfolding pack_queue
 put_row es e h =
     let n : ℕ = length es in
     let z : List ℕ = replicate (512 - 8 * n) 0 in
     let p : length (n ∷ queue_rows es) ≡ 1 + 8 * n = omega (arith, length_rows es) in
-    overwrite_is (n ∷ (queue_rows es ++ z)) (1 + 8 * n) (queue_row e) (omega (arith, length_pack es (omega arith)))
-    ∙ ap (λ (l : List ℕ). l ++ queue_row e ++ drop (1 + 8 * n + 8) (n ∷ (queue_rows es ++ z))) (take_at (n ∷ queue_rows es) z (1 + 8 * n) p)
-    ∙ ap (λ (l : List ℕ). (n ∷ queue_rows es) ++ queue_row e ++ l)
+    ap (λ (l : List ℕ). l ++ (queue_row e ++ drop (1 + 8 * n + 8) (n ∷ (queue_rows es ++ z)))) (take_at (n ∷ queue_rows es) z (1 + 8 * n) p)
+    ∙ ap (λ (l : List ℕ). (n ∷ queue_rows es) ++ (queue_row e ++ l))
     (sym (drop-drop 8 (1 + 8 * n) (n ∷ (queue_rows es ++ z))) ∙ ap (drop 8) (drop_at (n ∷ queue_rows es) z (1 + 8 * n) p) ∙ fewer (512 - 8 * n) (omega arith))
+    ∙ sym (append_assoc (n ∷ queue_rows es) (queue_row e) (replicate (512 - 8 * n - 8) 0))
 
-pub push_pack : (es : List TimerMapEntry) (e : TimerMapEntry) → length es < 64
-    → set (overwrite (pack_queue es) (1 + 8 * length es) (queue_row e)) 0 (length es + 1) ≡ pack_queue (es ++ (e ∷ []))
+push_pack : (es : List TimerMapEntry) (e : TimerMapEntry) → length es < 64
+    → set (take (1 + 8 * length es) (pack_queue es) ++ (queue_row e ++ drop (1 + 8 * length es + 8) (pack_queue es))) 0 (length es + 1) ≡ pack_queue (es ++ (e ∷ []))
 unfolding pack_queue
 push_pack es e h =
     let n : length (es ++ (e ∷ [])) ≡ length es + 1 = length-append es (e ∷ []) in
@@ -216,14 +217,26 @@ push_pack es e h =
     last : queue_rows es ++ queue_rows (e ∷ []) ≡ queue_rows es ++ queue_row e
     last = ap (λ (l : List ℕ). queue_rows es ++ l) (one_row e)
 
--- the words after the two stores of `push_entry`: a is the row, and mid has it
-pub push_law : (ws : List ℕ) (e : TimerMapEntry) (a mid : List ℕ) → SoundQueue ws → queue_count ws < 64 → a ≡ queue_row e → mid ≡ overwrite ws (1 + 8 * queue_count ws) a
-    → set mid 0 (queue_count ws + 1) ≡ pack_queue (entries_of ws ++ (e ∷ []))
-push_law ws e a mid s h p q =
-    ap (λ (l : List ℕ). set l 0 (queue_count ws + 1)) (q ∙ ap (overwrite ws (1 + 8 * queue_count ws)) p)
-    ∙ subst (λ (n : ℕ). set (overwrite ws (1 + 8 * n) (queue_row e)) 0 (n + 1) ≡ pack_queue (entries_of ws ++ (e ∷ []))) s.count
-    (subst (λ (l : List ℕ). set (overwrite l (1 + 8 * length (entries_of ws)) (queue_row e)) 0 (length (entries_of ws) + 1) ≡ pack_queue (entries_of ws ++ (e ∷ []))) (sym s.is)
+-- the words after the two stores of `push_entry`: a is the row
+pub push_law : (ws : List ℕ) (e : TimerMapEntry) (a : List ℕ) → SoundQueue ws → queue_count ws < 64 → a ≡ queue_row e
+    → set (put_mid (1 + 8 * queue_count ws) (1 + 8 * queue_count ws + 8 - (1 + 8 * queue_count ws)) ws a) 0 (queue_count ws + 1) ≡ pack_queue (entries_of ws ++ (e ∷ []))
+push_law ws e a s h p =
+    let at : ℕ = 1 + 8 * queue_count ws in
+    let k : at + (at + 8 - at) ≡ at + 8 = omega arith in
+    ap (λ (l : List ℕ). set (take at ws ++ (l ++ drop (at + 8 - at) (drop at ws))) 0 (queue_count ws + 1)) p
+    ∙ ap (λ (l : List ℕ). set (take at ws ++ (queue_row e ++ l)) 0 (queue_count ws + 1)) (drop-drop (at + 8 - at) at ws ∙ ap (λ (m : ℕ). drop m ws) k)
+    ∙ subst (λ (n : ℕ). set (take (1 + 8 * n) ws ++ (queue_row e ++ drop (1 + 8 * n + 8) ws)) 0 (n + 1) ≡ pack_queue (entries_of ws ++ (e ∷ []))) s.count
+    (subst (λ (l : List ℕ). set (take (1 + 8 * length (entries_of ws)) l ++ (queue_row e ++ drop (1 + 8 * length (entries_of ws) + 8) l)) 0 (length (entries_of ws) + 1) ≡ pack_queue (entries_of ws ++ (e ∷ []))) (sym s.is)
     (push_pack (entries_of ws) e (omega (arith, s.count))))
+
+-- ---- zeroes from a place on
+
+cleared : (s c : List ℕ) (at : ℕ) → at ≤ length s → c ≡ replicate (length (take (length s - at) (drop at s))) 0 → put_mid at (length s - at) s c ≡ take at s ++ replicate (length s - at) 0
+cleared s c at h e =
+    let n : length (take (length s - at) (drop at s)) ≡ length s - at = length-take-le (length s - at) (drop at s) (omega (arith, length-drop at s)) in
+    let z : drop (length s - at) (drop at s) ≡ [] = drop_all (length s - at) (drop at s) (omega (arith, length-drop at s)) in
+    ap (λ (l : List ℕ). take at s ++ (l ++ drop (length s - at) (drop at s))) (e ∙ ap (λ (m : ℕ). replicate m 0) n)
+    ∙ ap (λ (l : List ℕ). take at s ++ (replicate (length s - at) 0 ++ l)) z ∙ ap (λ (l : List ℕ). take at s ++ l) (append-nil (replicate (length s - at) 0))
 
 -- ---- one entry less
 
@@ -292,15 +305,24 @@ shifted_length ws i l h =
     length-append (take (1 + 8 * i) ws) (drop (1 + 8 * i + 8) ws ++ drop 505 ws)
     ∙ omega (arith, length-take-le (1 + 8 * i) ws (omega arith), length-append (drop (1 + 8 * i + 8) ws) (drop 505 ws), length-drop (1 + 8 * i + 8) ws, length-drop 505 ws)
 
--- the words after the three steps of `remove_entry`: s is shifted, and c has its last row cleared
-pub remove_law : (ws : List ℕ) (i : ℕ) (s c : List ℕ) → SoundQueue ws → i < queue_count ws
-    → c ≡ take 505 s ++ replicate (length s - 505) 0 → s ≡ take (1 + 8 * i) ws ++ (drop (1 + 8 * i + 8) ws ++ drop 505 ws)
-    → set c 0 (queue_count ws - 1) ≡ pack_queue (shift_remove i (entries_of ws))
-remove_law ws i s c v h p q =
+-- what `copy_within` leaves: the rows from i on are those one row on
+moved : (ws s : List ℕ) (i : ℕ) → length ws ≡ 513 → 1 + 8 * i ≤ 505 → s ≡ paste ws (1 + 8 * i) (drop (1 + 8 * i + 8) ws) (length ws - (1 + 8 * i + 8))
+    → s ≡ take (1 + 8 * i) ws ++ (drop (1 + 8 * i + 8) ws ++ drop 505 ws)
+moved ws s i l h e =
+    let k : 1 + 8 * i + (length ws - (1 + 8 * i + 8)) ≡ 505 = omega arith in
+    e ∙ paste_all ws (1 + 8 * i) (drop (1 + 8 * i + 8) ws) (length ws - (1 + 8 * i + 8)) (sym (length-drop (1 + 8 * i + 8) ws))
+    ∙ ap (λ (n : ℕ). take (1 + 8 * i) ws ++ (drop (1 + 8 * i + 8) ws ++ drop n ws)) k
+
+-- the words after the three steps of `remove_entry`: s is moved, and z stands in its last row
+pub remove_law : (ws : List ℕ) (i : ℕ) (s z : List ℕ) → SoundQueue ws → i < queue_count ws
+    → s ≡ paste ws (1 + 8 * i) (drop (1 + 8 * i + 8) ws) (length ws - (1 + 8 * i + 8)) → z ≡ replicate (length (take (length s - 505) (drop 505 s))) 0
+    → set (put_mid 505 (length s - 505) s z) 0 (queue_count ws - 1) ≡ pack_queue (shift_remove i (entries_of ws))
+remove_law ws i s z v h m p =
+    let q : s ≡ take (1 + 8 * i) ws ++ (drop (1 + 8 * i + 8) ws ++ drop 505 ws) = moved ws s i v.long (omega (arith, v.few)) m in
     let l : length s ≡ 513 = ap length q ∙ shifted_length ws i v.long (omega (arith, v.few)) in
     let k : length s - 505 ≡ 8 = omega arith in
-    let r : c ≡ take 505 (take (1 + 8 * i) ws ++ (drop (1 + 8 * i + 8) ws ++ drop 505 ws)) ++ replicate 8 0 =
-    p ∙ ap (λ (n : ℕ). take 505 s ++ replicate n 0) k ∙ ap (λ (l : List ℕ). take 505 l ++ replicate 8 0) q in
+    let r : put_mid 505 (length s - 505) s z ≡ take 505 (take (1 + 8 * i) ws ++ (drop (1 + 8 * i + 8) ws ++ drop 505 ws)) ++ replicate 8 0 =
+    cleared s z 505 (omega arith) p ∙ ap (λ (n : ℕ). take 505 s ++ replicate n 0) k ∙ ap (λ (l : List ℕ). take 505 l ++ replicate 8 0) q in
     ap (λ (l : List ℕ). set l 0 (queue_count ws - 1)) r
     ∙ ap (λ (n : ℕ). set (take 505 (take (1 + 8 * i) ws ++ (drop (1 + 8 * i + 8) ws ++ drop 505 ws)) ++ replicate 8 0) 0 (n - 1)) (sym v.count)
     ∙ ap (λ (l : List ℕ). set (take 505 (take (1 + 8 * i) l ++ (drop (1 + 8 * i + 8) l ++ drop 505 ws)) ++ replicate 8 0) 0 (length (entries_of ws) - 1)) v.is
@@ -321,8 +343,9 @@ truncate_pack es n h f =
     ∙ ap (λ (j : ℕ). n ∷ (queue_rows (take n es) ++ replicate j 0)) k
     ∙ ap (λ (j : ℕ). j ∷ (queue_rows (take n es) ++ replicate (512 - 8 * j) 0)) (sym a)
 
-pub truncate_law : (ws : List ℕ) (n : ℕ) (c : List ℕ) → SoundQueue ws → n ≤ queue_count ws → c ≡ take (1 + 8 * n) ws ++ replicate (length ws - (1 + 8 * n)) 0 → set c 0 n ≡ pack_queue (take n (entries_of ws))
-truncate_law ws n c v h p =
-    ap (λ (l : List ℕ). set l 0 n) (p ∙ ap (λ (k : ℕ). take (1 + 8 * n) ws ++ replicate (k - (1 + 8 * n)) 0) v.long)
+pub truncate_law : (ws : List ℕ) (n : ℕ) (z : List ℕ) → SoundQueue ws → n ≤ queue_count ws → z ≡ replicate (length (take (length ws - (1 + 8 * n)) (drop (1 + 8 * n) ws))) 0
+    → set (put_mid (1 + 8 * n) (length ws - (1 + 8 * n)) ws z) 0 n ≡ pack_queue (take n (entries_of ws))
+truncate_law ws n z v h p =
+    ap (λ (l : List ℕ). set l 0 n) (cleared ws z (1 + 8 * n) (omega (arith, v.long, v.few)) p ∙ ap (λ (k : ℕ). take (1 + 8 * n) ws ++ replicate (k - (1 + 8 * n)) 0) v.long)
     ∙ ap (λ (l : List ℕ). set (take (1 + 8 * n) l ++ replicate (513 - (1 + 8 * n)) 0) 0 n) v.is
     ∙ truncate_pack (entries_of ws) n (omega (arith, v.count)) (omega (arith, v.count, v.few))

@@ -1,6 +1,6 @@
 -- What each function answers of any words, and what it leaves of them: "2, the queue breaks its own rules" first, and a refusal changes nothing.
 -- Assumes nothing.
-use Rattle.std.specs.Prelude.{ℕ, ◌≡◌, true, false, List, [], length, eqb}
+use Rattle.std.specs.Prelude.{ℕ, ◌≡◌, true, false, List, [], length, eqb, Option, Some, None, Result, Ok, Err}
 use Rattle.base_lists.specs.Lists.{choose, null}
 use Rattle.base_lists.specs.Lent.{Lent}
 use Rattle.timer_map.specs.Entries.{Put, insert_timer, is_due, soonest, first_entry, no_queue_entry, popped_entries}
@@ -8,9 +8,23 @@ use Rattle.timer_map.specs.Words.{queue_words, entries_of, queue_ok, pack_queue}
 use Rattle.timer_map.specs.declared.Timer.{Timer}
 use Rattle.timer_map.specs.declared.TimerMapEntry.{TimerMapEntry}
 use Rattle.timer_map.specs.declared.Due.{Due}
+use Rattle.timer_map.specs.declared.QueueRefusal.{QueueRefusal}
+use Rattle.timer_map.specs.declared.QueueRefusal.TheVariants as Refusals
 use Rattle.timer_map.specs.declared.Popped.{Popped}
 use Rattle.timer_map.specs.declared.First.{First}
 use Rattle.timer_map.specs.declared.Len.{Len}
+
+-- the number that stands for a refusal
+abbrev pub queue_code : QueueRefusal → ℕ
+queue_code Refusals.Broken = 2
+queue_code Refusals.NoTimer = 3
+queue_code Refusals.Full = 11
+queue_code Refusals.TooLate = 12
+
+-- the code of an answer: 0 where nothing is refused
+abbrev pub code_in : {A : Type 0} → Result A QueueRefusal → ℕ
+code_in (Ok x) = 0
+code_in (Err why) = queue_code why
 
 -- a code, and the words then lent
 pub record PutWords : Type 0 where
@@ -38,11 +52,8 @@ abbrev pub refused_pop : ℕ → Popped
 refused_pop code = record { code = code; found = false; entry = no_queue_entry }
 
 -- the entry that is to come out, and its place
-abbrev pub no_due : Due
-no_due = record { found = false; place = 0; entry = no_queue_entry }
-
-unfoldable pub due_in : ℕ → List TimerMapEntry → Due
-due_in limit es = choose (is_due limit es) (record { found = true; place = soonest es; entry = first_entry es }) no_due
+unfoldable pub due_in : ℕ → List TimerMapEntry → Option Due
+due_in limit es = choose (is_due limit es) (Some (record { place = soonest es; entry = first_entry es })) None
 
 unfoldable pub popped : ℕ → List TimerMapEntry → Popped
 popped limit es = choose (is_due limit es) (record { code = 0; found = true; entry = first_entry es }) (refused_pop 0)
@@ -58,12 +69,16 @@ popped_words limit es = record { answer = popped limit es; words = pack_queue (p
 unfoldable pub taken_out : ℕ → List ℕ → PoppedWords
 taken_out limit ws = choose (queue_ok ws) (popped_words limit (entries_of ws)) (record { answer = refused_pop 2; words = ws })
 
+-- without a due time: a refusal, or code 0 where no entry is held
+abbrev pub refused_first : ℕ → First
+refused_first code = record { code = code; found = false; time = 0 }
+
 -- TimerMap::first
 unfoldable pub first_of : List TimerMapEntry → First
-first_of es = choose (null es) (record { code = 0; found = false; time = 0 }) (record { code = 0; found = true; time = (first_entry es).time })
+first_of es = choose (null es) (refused_first 0) (record { code = 0; found = true; time = (first_entry es).time })
 
 unfoldable pub first_in : List ℕ → First
-first_in ws = choose (queue_ok ws) (first_of (entries_of ws)) (record { code = 2; found = false; time = 0 })
+first_in ws = choose (queue_ok ws) (first_of (entries_of ws)) (refused_first 2)
 
 -- the count
 unfoldable pub count_in : List ℕ → Len

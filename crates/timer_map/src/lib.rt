@@ -1,17 +1,16 @@
 // Document 02, S-1: the timer queue of util.rs, `TimerMap`, in 513 words that the caller lends.
 #![tactic(auto)]
 
-ghost use Rattle.std.specs.Prelude.{◌≡◌, [], ◌∷◌, ◌++◌, ◌+◌, ◌-◌, ◌≤◌, ◌<◌, length, take, drop, replicate};
+ghost use Rattle.std.specs.Prelude.{◌≡◌, [], ◌∷◌, ◌++◌, ◌+◌, ◌≤◌, ◌<◌, length, take, drop, IfOk};
+ghost use Rattle.std.specs.Simd.{first_chunks};
 ghost use Rattle.base_lists.specs.Lists.{shift_remove};
-ghost use Rattle.base_lists.specs.Lent.{Overwrites};
 ghost use Rattle.base_lists.specs.Tests.{every};
-ghost use Rattle.timer_map.specs.Entries.{capacity, timer_ok, queue_entry_ok, insert_refusal, insert_timer};
-ghost use Rattle.timer_map.specs.Entries.{soonest, no_queue_entry};
-ghost use Rattle.timer_map.specs.Words.{row_words, first_row, row_at, last_row, queue_words, queue_count};
-ghost use Rattle.timer_map.specs.Words.{queue_entry_at, queue_entries_at, entries_of, queue_row, shifted_down};
-ghost use Rattle.timer_map.specs.Words.{earlier_row, unused_word, queue_ok, pack_queue, SoundQueue};
-ghost use Rattle.timer_map.specs.Calls.{Leaves, PutsIn, inserted, renewed, no_due, due_in, popped_words};
-ghost use Rattle.timer_map.specs.Calls.{refused_pop, taken_out, first_of, first_in, count_in};
+ghost use Rattle.timer_map.specs.Entries.{capacity, timer_ok, queue_entry_ok, insert_refusal, insert_timer, soonest};
+ghost use Rattle.timer_map.specs.Words.{row_words, first_row, row_at, queue_words, queue_count};
+ghost use Rattle.timer_map.specs.Words.{queue_entry_at, queue_entries_at, entries_of, queue_row};
+ghost use Rattle.timer_map.specs.Words.{unused_word, queue_ok, pack_queue, SoundQueue};
+ghost use Rattle.timer_map.specs.Calls.{Leaves, PutsIn, inserted, renewed, due_in, popped_words};
+ghost use Rattle.timer_map.specs.Calls.{refused_pop, refused_first, taken_out, first_of, first_in, count_in, code_in};
 
 // The lent words: the count, then a row for each place. A sum is a constant of its own.
 pub const WORDS: usize = 513;
@@ -26,9 +25,6 @@ const LAST_ROW: usize = 505;
 
 const CAPACITY: u64 = 64;
 
-// The latest due time.
-const LATEST: u64 = 18446744073709551615;
-
 // The kinds that a timer can have; none of them has an id, and those up to the second have neither peer nor number. What S-7 adds is added to `timer_ok` alone.
 const FIRST_KIND: u64 = 1;
 
@@ -36,23 +32,33 @@ const LAST_BARE_KIND: u64 = 2;
 
 const LAST_KIND: u64 = 4;
 
-// The codes of refusals.
-const BROKEN: u32 = 2;
+// Why a call is refused: each by the number that C is told.
+#[derive(Clone, Copy, PartialEq, Eq)]
+pub enum QueueRefusal {
+    Broken = 2,
+    NoTimer = 3,
+    Full = 11,
+    TooLate = 12,
+}
 
-const NO_TIMER: u32 = 3;
-
-const FULL: u32 = 11;
-
-const TOO_LATE: u32 = 12;
+// The number that C is told: 0 where nothing is refused.
+pub fn code(r: Result<(), QueueRefusal>) -> u32
+    ensures { result ≡ code_in r }
+{
+    match r {
+        Ok(()) => 0,
+        Err(why) => why as u32,
+    }
+}
 
 // 32 bytes, in words.
 #[repr(C)]
-#[derive(Clone, Copy)]
+#[derive(Clone, Copy, PartialEq, Eq, Default)]
 pub struct Id(pub u64, pub u64, pub u64, pub u64);
 
 // What a timer is: kind, peer and number as in its record, and the id of S-7's timers.
 #[repr(C)]
-#[derive(Clone, Copy)]
+#[derive(Clone, Copy, Default)]
 pub struct Timer {
     pub kind: u64,
     pub peer: u64,
@@ -62,23 +68,22 @@ pub struct Timer {
 
 // TimerMapEntry without its sequence number: entries stand in the order put in.
 #[repr(C)]
-#[derive(Clone, Copy)]
+#[derive(Clone, Copy, Default)]
 pub struct TimerMapEntry {
     pub time: u64,
     pub item: Timer,
 }
 
-// The entry that is to come out, and its place; without one all of it is zero.
+// The entry that is to come out, and its place.
 #[derive(Clone, Copy)]
 pub struct Due {
-    pub found: bool,
     pub place: usize,
     pub entry: TimerMapEntry,
 }
 
 // What taking out hands back; without an entry all of it is zero.
 #[repr(C)]
-#[derive(Clone, Copy)]
+#[derive(Clone, Copy, Default)]
 pub struct Popped {
     pub code: u32,
     pub found: bool,
@@ -87,7 +92,7 @@ pub struct Popped {
 
 // The next due time, if any.
 #[repr(C)]
-#[derive(Clone, Copy)]
+#[derive(Clone, Copy, Default)]
 pub struct First {
     pub code: u32,
     pub found: bool,
@@ -106,55 +111,70 @@ pub struct Len {
 fn timer_ok(x: Timer) -> bool
     ensures { result ≡ timer_ok x }
 {
-    let id = x.id;
-    let no_id = (id.0 == 0) & ((id.1 == 0) & ((id.2 == 0) & (id.3 == 0)));
+    let no_id = x.id == Id::default();
     let bare_ok = (LAST_BARE_KIND < x.kind) | ((x.peer == 0) & (x.number == 0));
     (FIRST_KIND <= x.kind) & ((x.kind <= LAST_KIND) & (bare_ok & no_id))
 }
 
-// The entry whose row stands at place `at`.
-fn entry_at(q: &[u64], at: usize) -> TimerMapEntry
-    requires { at + row_words ≤ length q.now }
-    ensures { result ≡ queue_entry_at q.now at }
+// The rows of a queue's words.
+fn rows(q: &[u64]) -> &[[u64; ROW]]
+    requires { length q.now ≡ queue_words }
+    ensures { result.now ≡ first_chunks row_words capacity (drop first_row q.now) }
 {
-    let id = Id(q[at + 4], q[at + 5], q[at + 6], q[at + 7]);
-    let item = Timer {
-        kind: q[at + 1],
-        peer: q[at + 2],
-        number: q[at + 3],
-        id: id,
-    };
-    TimerMapEntry {
-        time: q[at],
-        item: item,
+    let (rows, _) = q[ROWS..].as_chunks::<ROW>();
+    rows
+}
+
+impl From<&[u64; ROW]> for TimerMapEntry {
+    fn from(row: &[u64; ROW]) -> TimerMapEntry
+        ensures { result ≡ queue_entry_at row.now 0 }
+    {
+        let [time, kind, peer, number, id0, id1, id2, id3] = *row;
+        TimerMapEntry {
+            time,
+            item: Timer {
+                kind,
+                peer,
+                number,
+                id: Id(id0, id1, id2, id3),
+            },
+        }
     }
 }
 
-// The row of an entry.
-fn row(e: TimerMapEntry) -> [u64; ROW]
-    ensures { result ≡ queue_row e }
+impl From<TimerMapEntry> for [u64; ROW] {
+    fn from(e: TimerMapEntry) -> [u64; ROW]
+        ensures { result ≡ queue_row e }
+    {
+        let TimerMapEntry { time, item } = e;
+        let Timer {
+            kind,
+            peer,
+            number,
+            id,
+        } = item;
+        [time, kind, peer, number, id.0, id.1, id.2, id.3]
+    }
+}
+
+// The entry whose row is the i-th.
+fn entry_at(q: &[u64], i: usize) -> TimerMapEntry
+    requires q_len { length q.now ≡ queue_words }
+    requires i_bound { i < capacity }
+    ensures { result ≡ queue_entry_at q.now (row_at i) }
 {
-    let x = e.item;
-    let id = x.id;
-    [e.time, x.kind, x.peer, x.number, id.0, id.1, id.2, id.3]
+    TimerMapEntry::from(&rows(q)[i])
 }
 
 // Whether the first n rows are timers.
 fn queue_entries_ok(q: &[u64], n: usize) -> bool
-    requires { row_at n ≤ length q.now }
+    requires q_len { length q.now ≡ queue_words }
+    requires n_bound { n ≤ capacity }
     ensures { result ≡ every queue_entry_ok (queue_entries_at q.now first_row n) }
 {
-    let mut ok = true;
-    let mut at = ROWS;
-    let mut i: usize = 0;
-    while i < n {
-        let e = entry_at(q, at);
-        let x = e.item;
-        ok = ok & timer_ok(x);
-        at += ROW;
-        i += 1;
-    }
-    ok
+    rows(q)[..n]
+        .iter()
+        .all(|row| timer_ok(TimerMapEntry::from(row).item))
 }
 
 // Whether the words from place `from` on are zero.
@@ -162,13 +182,7 @@ fn unused_from(q: &[u64], from: usize) -> bool
     requires { from ≤ length q.now }
     ensures { result ≡ every unused_word (drop from q.now) }
 {
-    let mut ok = true;
-    let mut i = from;
-    while i < q.len() {
-        ok = ok & (q[i] == 0);
-        i += 1;
-    }
-    ok
+    q[from..].iter().all(|w| *w == 0)
 }
 
 // Whether the words keep the queue's own rules.
@@ -183,45 +197,7 @@ pub fn queue_ok(q: &[u64]) -> bool
         return false;
     }
     let count = n as usize;
-    let end = ROWS + ROW * count;
-    queue_entries_ok(q, count) & unused_from(q, end)
-}
-
-// The words ws, from place `at` on.
-fn put_words(q: &mut [u64], at: usize, ws: &[u64])
-    requires { at + length ws.now ≤ length q.old }
-    ensures { Overwrites q at ws.now }
-{
-    let mut i: usize = 0;
-    while i < ws.len() {
-        q[at + i] = ws[i];
-        i += 1;
-    }
-}
-
-// The words from place `from` on become zero.
-fn clear_rows(q: &mut [u64], from: usize)
-    requires { from ≤ length q.old }
-    ensures { q.new ≡ take from q.old ++ replicate (length q.old - from) 0 }
-{
-    let mut i = from;
-    while i < q.len() {
-        q[i] = 0;
-        i += 1;
-    }
-}
-
-// The row at place `at` goes, and the later ones move down; the last row stays as it is.
-fn shift_down(q: &mut [u64], at: usize)
-    requires q_len { length q.old ≡ queue_words }
-    requires at_le_last_row { at ≤ last_row }
-    ensures { q.new ≡ shifted_down at q.old }
-{
-    let mut k = at;
-    while k < LAST_ROW {
-        q[k] = q[k + ROW];
-        k += 1;
-    }
+    queue_entries_ok(q, count) & unused_from(q, ROWS + ROW * count)
 }
 
 // One more entry, at the end.
@@ -231,9 +207,9 @@ fn push_entry(q: &mut [u64], e: TimerMapEntry)
     ensures { q.new ≡ pack_queue (entries_of q.old ++ (e ∷ [])) }
 {
     let n = q[COUNT];
-    let a = row(e);
     let at = ROWS + ROW * (n as usize);
-    put_words(q, at, &a);
+    let row = <[u64; ROW]>::from(e);
+    q[at..at + ROW].copy_from_slice(&row);
     q[COUNT] = n + 1;
 }
 
@@ -245,8 +221,8 @@ pub fn remove_entry(q: &mut [u64], i: usize)
 {
     let n = q[COUNT];
     let at = ROWS + ROW * i;
-    shift_down(q, at);
-    clear_rows(q, LAST_ROW);
+    q.copy_within(at + ROW.., at);
+    q[LAST_ROW..].fill(0);
     q[COUNT] = n - 1;
 }
 
@@ -257,43 +233,33 @@ pub fn truncate_entries(q: &mut [u64], n: u64)
     ensures { q.new ≡ pack_queue (take n (entries_of q.old)) }
 {
     let at = ROWS + ROW * (n as usize);
-    clear_rows(q, at);
+    q[at..].fill(0);
     q[COUNT] = n;
 }
 
-// Why a timer with this delay cannot be put in beside n others, or 0.
-fn refusal(time: u64, delay: u64, n: u64) -> u32
-    ensures { result ≡ insert_refusal time delay n }
+// When a timer is due that is put in beside n others, or why it cannot be put in.
+#[tactic(auto, using(crate::proofs::Ways::too_late, crate::proofs::Ways::too_many, crate::proofs::Ways::may))]
+fn due_time(time: u64, delay: u64, n: u64) -> Result<u64, QueueRefusal>
+    ensures code { code_in result ≡ insert_refusal time delay n }
+    ensures due { IfOk result (λ t. t ≡ time + delay) }
 {
-    let late = LATEST - time < delay;
-    let full = CAPACITY <= n;
-    if late {
-        return TOO_LATE;
+    let due = time.checked_add(delay).ok_or(QueueRefusal::TooLate)?;
+    if CAPACITY <= n {
+        return Err(QueueRefusal::Full);
     }
-    if full {
-        return FULL;
-    }
-    0
+    Ok(due)
 }
-
 // A timer into a queue that keeps its rules.
-pub fn insert_ok(q: &mut [u64], time: u64, delay: u64, item: Timer) -> u32
+pub fn insert_ok(q: &mut [u64], time: u64, delay: u64, item: Timer) -> Result<(), QueueRefusal>
     requires { SoundQueue q.old }
-    ensures { PutsIn result q (insert_timer time delay item) }
+    ensures { PutsIn (code_in result) q (insert_timer time delay item) }
 {
-    if timer_ok(item) {
-        let code = refusal(time, delay, q[COUNT]);
-        if code != 0 {
-            return code;
-        }
-        let e = TimerMapEntry {
-            time: time + delay,
-            item: item,
-        };
-        push_entry(q, e);
-        return 0;
+    if !timer_ok(item) {
+        return Err(QueueRefusal::NoTimer);
     }
-    NO_TIMER
+    let due = due_time(time, delay, q[COUNT])?;
+    push_entry(q, TimerMapEntry { time: due, item });
+    Ok(())
 }
 
 // TimerMap::insert, by the time and a delay: 0, or 2, 3 (no timer), 12, 11, and then every word is as it was.
@@ -301,98 +267,52 @@ pub fn timer_map_insert(q: &mut [u64], time: u64, delay: u64, item: Timer) -> u3
     ensures { Leaves result q (inserted time delay item q.old) }
 {
     if queue_ok(q) {
-        return insert_ok(q, time, delay, item);
+        return code(insert_ok(q, time, delay, item));
     }
-    BROKEN
+    QueueRefusal::Broken as u32
 }
 
-// The one of two places whose row is due earlier; where both are due at one time, the one that stood first.
-fn earlier(q: &[u64], best: usize, i: usize) -> usize
-    requires row_words_in_bounds { row_at best + row_words ≤ length q.now }
-    requires row_words_in_bounds_2 { row_at i + row_words ≤ length q.now }
-    ensures { result ≡ earlier_row best i q.now }
-{
-    let old = ROWS + ROW * best;
-    let new = ROWS + ROW * i;
-    if q[new] < q[old] {
-        return i;
-    }
-    best
-}
-
-// The place of the first of n entries with the smallest due time.
+// The place of the first entry with the smallest due time, of n entries.
 fn soonest(q: &[u64], n: usize) -> usize
-    requires n_in_bounds { row_at n ≤ length q.now }
+    requires q_len { length q.now ≡ queue_words }
+    requires n_bound { n ≤ capacity }
     requires n_nonzero { 0 < n }
     ensures { (result ≡ soonest (queue_entries_at q.now first_row n)) × (result < n) }
 {
-    let mut best: usize = 0;
-    let mut i: usize = 0;
-    while i < n {
-        best = earlier(q, best, i);
-        i += 1;
+    let rows = rows(q);
+    let mut best = 0;
+    for i in 1..n {
+        if rows[i][0] < rows[best][0] {
+            best = i;
+        }
     }
     best
 }
 
-fn no_entry() -> TimerMapEntry
-    ensures { result ≡ no_queue_entry }
+// The first entry with the smallest due time, where that is at most the limit, of a queue that keeps its rules.
+pub fn find_due(q: &[u64], limit: u64) -> Option<Due>
+    requires { SoundQueue q.now }
+    ensures { result ≡ due_in limit (entries_of q.now) }
 {
-    let id = Id(0, 0, 0, 0);
-    let item = Timer {
-        kind: 0,
-        peer: 0,
-        number: 0,
-        id: id,
-    };
-    TimerMapEntry {
-        time: 0,
-        item: item,
+    let n = q[COUNT] as usize;
+    if n == 0 {
+        return None;
     }
-}
-
-fn no_due() -> Due
-    ensures { result ≡ no_due }
-{
-    let e = no_entry();
-    Due {
-        found: false,
-        place: 0,
-        entry: e,
+    let place = soonest(q, n);
+    let entry = entry_at(q, place);
+    if limit < entry.time {
+        return None;
     }
+    Some(Due { place, entry })
 }
 
 // Without an entry: none is due, or the code of a refusal.
 fn no_pop(code: u32) -> Popped
     ensures { result ≡ refused_pop code }
 {
-    let e = no_entry();
     Popped {
-        code: code,
-        found: false,
-        entry: e,
-    }
-}
-
-// The first entry with the smallest due time, where that is at most the limit, of a queue that keeps its rules.
-pub fn find_due(q: &[u64], limit: u64) -> Due
-    requires { SoundQueue q.now }
-    ensures { result ≡ due_in limit (entries_of q.now) }
-{
-    let n = q[COUNT] as usize;
-    if n == 0 {
-        return no_due();
-    }
-    let i = soonest(q, n);
-    let at = ROWS + ROW * i;
-    let e = entry_at(q, at);
-    if limit < e.time {
-        return no_due();
-    }
-    Due {
-        found: true,
-        place: i,
-        entry: e,
+        code,
+        ..Popped::default()
     }
 }
 
@@ -401,18 +321,15 @@ fn pop_ok(q: &mut [u64], limit: u64) -> Popped
     requires { SoundQueue q.old }
     ensures { record { answer = result; words = q.new } ≡ popped_words limit (entries_of q.old) }
 {
-    let d = find_due(q, limit);
-    if d.found {
-        let i = d.place;
-        let e = d.entry;
-        remove_entry(q, i);
-        return Popped {
-            code: 0,
-            found: true,
-            entry: e,
-        };
+    let Some(due) = find_due(q, limit) else {
+        return no_pop(0);
+    };
+    remove_entry(q, due.place);
+    Popped {
+        code: 0,
+        found: true,
+        entry: due.entry,
     }
-    no_pop(0)
 }
 
 // TimerMap::pop_before: the first of the entries with the smallest due time, where that is at most the limit.
@@ -422,7 +339,17 @@ pub fn timer_map_pop_before(q: &mut [u64], limit: u64) -> Popped
     if queue_ok(q) {
         return pop_ok(q, limit);
     }
-    no_pop(BROKEN)
+    no_pop(QueueRefusal::Broken as u32)
+}
+
+// Without a due time: none is held, or the code of a refusal.
+fn no_first(code: u32) -> First
+    ensures { result ≡ refused_first code }
+{
+    First {
+        code,
+        ..First::default()
+    }
 }
 
 // The next due time of a queue that keeps its rules.
@@ -432,18 +359,13 @@ fn first_ok(q: &[u64]) -> First
 {
     let n = q[COUNT] as usize;
     if n == 0 {
-        return First {
-            code: 0,
-            found: false,
-            time: 0,
-        };
+        return no_first(0);
     }
     let i = soonest(q, n);
-    let at = ROWS + ROW * i;
     First {
         code: 0,
         found: true,
-        time: q[at],
+        time: entry_at(q, i).time,
     }
 }
 
@@ -454,11 +376,7 @@ pub fn timer_map_first(q: &[u64]) -> First
     if queue_ok(q) {
         return first_ok(q);
     }
-    First {
-        code: BROKEN,
-        found: false,
-        time: 0,
-    }
+    no_first(QueueRefusal::Broken as u32)
 }
 
 // How many timers are held.
@@ -472,7 +390,7 @@ pub fn timer_map_len(q: &[u64]) -> Len
         };
     }
     Len {
-        code: BROKEN,
+        code: QueueRefusal::Broken as u32,
         count: 0,
     }
 }
@@ -482,8 +400,8 @@ pub fn timer_map_new(q: &mut [u64]) -> u32
     ensures { Leaves result q (renewed q.old) }
 {
     if q.len() != WORDS {
-        return BROKEN;
+        return QueueRefusal::Broken as u32;
     }
-    clear_rows(q, 0);
+    q.fill(0);
     0
 }

@@ -1,16 +1,16 @@
 -- Laws of how a history ends.
 -- Assumes nothing.
-use Prim.Native.Nat.{ℕ, suc, ◌-◌, ◌≤◌, ◌<◌}
+use Prim.Native.Nat.{ℕ, suc, ◌+◌, ◌-◌, ◌≤◌, ◌<◌}
 use mathlib.Core.Path.{◌≡◌, refl, sym, ap, ◌∙◌}
-use mathlib.Core.Bool.{Bool, true, false, ◌&&◌}
+use mathlib.Core.Bool.{false}
 use mathlib.Core.List.{List}
 use mathlib.Core.Option.{none}
 use native.Mathlib.Omega.{arith}
 use lib.ListN.{length, take, drop, set, replicate}
-use lib.Dec.{leb, eqb}
-use borrow.Author.Tests.{leb-true, eq-eqb, ne_eqb}
+use lib.Dec.{eqb}
+use borrow.Author.Tests.{eq-eqb, ne_eqb}
 use Rattle.io.specs.Counts.{IsPrefixLen}
-use Rattle.base_lists.proofs.Choice.{choose_yes, choose_no, and_left}
+use Rattle.base_lists.proofs.Choice.{choose_yes, choose_no}
 use Rattle.spec_hyparview.specs.Station.{Station}
 use Rattle.spec_hyparview.specs.Handle as P
 use Rattle.base_lists.specs.Array.{pad}
@@ -22,10 +22,8 @@ use Rattle.hyparview.specs.declared.State.{State}
 use Rattle.hyparview.specs.declared.MadeState.{MadeState}
 use Rattle.hyparview.proofs.Making.{zero_words}
 use Rattle.hyparview.specs.Handled.{handled}
-use Rattle.hyparview.specs.Room.{output_room}
 use Rattle.run_input.specs.declared.Head.{Head}
-use Rattle.run_input.specs.declared.Input.{Input}
-use Rattle.run_input.specs.declared.Input.TheVariants.{Refused, Whole}
+use Rattle.std.specs.Prelude.{Option, Some, None}
 use Rattle.run_input.specs.Input.{head_length, numbers, event_length, cut_events, input_of}
 use Rattle.run_input.proofs.Laws.{Laid, laid}
 use Rattle.run_walk.specs.declared.Runner.{Runner}
@@ -37,36 +35,25 @@ use Rattle.trace_replay.specs.declared.TraceStart.{TraceStart}
 use Rattle.trace_replay.specs.declared.Ended.{Ended}
 use Rattle.trace_replay.specs.Ending.{room_of, counting, words_after, laid_words, ended_at, made_end, input_end, ended_of}
 
--- ---- the room
-
-module _ (start : TraceStart) (room : ℕ) where
-  pub room_given : start.room < output_room → room ≡ start.room → room ≡ room_of start
-  unfolding room_of
-  room_given h e = omega (arith, h, e)
-
-  pub room_most : output_room ≤ start.room → room ≡ output_room → room ≡ room_of start
-  unfolding room_of
-  room_most h e = omega (arith, h, e)
-
 -- ---- the events in order
 
--- the words that the events to come lead to
-pub record Walking (room : ℕ) (last events draws : List ℕ) (p : Runner) (left : ℕ) : Type 0 where
-  pub same : last ≡ words_after room p.state.words (cut_events left (drop p.at events)) (drop p.used draws)
+-- the words that the events to come lead to, of n with i passed
+pub record Walking (room : ℕ) (last events draws : List ℕ) (p : Runner) (n i : ℕ) : Type 0 where
+  pub same : last ≡ words_after room p.state.words (cut_events (n - i) (drop p.at events)) (drop p.used draws)
 
 pub walking_start : (room : ℕ) (s : State) (events draws : List ℕ) (n : ℕ)
-    → Walking room (words_after room s.words (cut_events n events) draws) events draws (record { state = s; at = 0; used = 0 }) n
-walking_start room s events draws n = record { same = refl }
+    → Walking room (words_after room s.words (cut_events n events) draws) events draws (record { state = s; at = 0; used = 0 }) n 0
+walking_start room s events draws n = record { same = let e : n ≡ n - 0 = omega arith in ap (λ (x : ℕ). words_after room s.words (cut_events x events) draws) e }
 
 one_event : (room k : ℕ) (xs l ds : List ℕ) → words_after room xs (cut_events (suc k) l) ds
     ≡ words_after room (handled xs (take (event_length l) l) ds room).words (cut_events k (drop (event_length l) l)) (drop (handled xs (take (event_length l) l) ds room).draws ds)
 unfolding cut_events words_after
 one_event room k xs l ds = refl
 
-module _ (room : ℕ) (last events draws : List ℕ) (p : Runner) (left : ℕ) (v : Walking room last events draws p left) where
-  pub walking_next : (q : Runner) (k : ℕ) → 0 < left → k ≡ room → q ≡ passed k p events draws → Walking room last events draws q (left - 1)
+module _ (room : ℕ) (last events draws : List ℕ) (p : Runner) (n i : ℕ) (v : Walking room last events draws p n i) where
+  pub walking_next : (q : Runner) (k : ℕ) → i < n → k ≡ room → q ≡ passed k p events draws → Walking room last events draws q n (i + 1)
   walking_next q k h z lent =
-      let c : left ≡ suc (left - 1) = omega (arith, h) in
+      let c : n - i ≡ suc (n - (i + 1)) = omega (arith, h) in
       let e : q ≡ passed room p events draws = lent ∙ ap (λ (x : ℕ). passed x p events draws) z in
       let words = next_words room p events draws q e in
       let places = next_events room p events draws q e in
@@ -74,24 +61,20 @@ module _ (room : ℕ) (last events draws : List ℕ) (p : Runner) (left : ℕ) (
       record {
         same = v.same
             ∙ (ap (λ (x : ℕ). words_after room p.state.words (cut_events x (drop p.at events)) (drop p.used draws)) c
-            ∙ (one_event room (left - 1) p.state.words (drop p.at events) (drop p.used draws)
-            ∙ (λ j. words_after room (sym words j) (cut_events (left - 1) (places j)) (sym rest j))));
+            ∙ (one_event room (n - (i + 1)) p.state.words (drop p.at events) (drop p.used draws)
+            ∙ (λ j. words_after room (sym words j) (cut_events (n - (i + 1)) (places j)) (sym rest j))));
       }
 
-  pub walking_end : left ≤ 0 → p.state.words ≡ last
+  pub walking_end : n ≤ i → p.state.words ≡ last
   unfolding cut_events words_after
   walking_end h =
-      let z : left ≡ 0 = omega (arith, h) in
+      let z : n - i ≡ 0 = omega (arith, h) in
       sym (v.same ∙ ap (λ (x : ℕ). words_after room p.state.words (cut_events x (drop p.at events)) (drop p.used draws)) z)
 
 pub walked : (room : ℕ) (xs ys : List ℕ) (head : Head) (b ns : List ℕ) → IsPrefixLen head.draws ns → ns ≡ numbers (length ns) 0 (drop head.draws_at b)
     → ys ≡ words_after room xs (cut_events head.events (take (head.draws_at - head_length) (drop head_length b))) (take head.draws ns) → ys ≡ laid_words room xs head b
 unfolding laid_words
 walked room xs ys head b ns h e k = k ∙ (λ j. words_after room xs (cut_events head.events (sym (part_is head_length head.draws_at b) j)) (first_draws b ns head h e j))
-
--- a text that is written whole lies within its space
-pub fitting : (end space : ℕ) (t : Bool) → (leb end space && t) ≡ true → end ≤ space
-fitting end space t h = leb-true end space (and_left (leb end space) t h)
 
 -- ---- the whole
 
@@ -127,14 +110,14 @@ pub counters_stored : (start : TraceStart) (g : Station) (xs : List ℕ) → xs 
 unfolding pack front counting
 counters_stored start g xs e = rw e
 
-module _ (start : TraceStart) (b : List ℕ) (x : Input) (e : x ≡ input_of b) where
-  pub ends_refused : x ≡ Refused → ended_at 3 (replicate words 0) ≡ ended_of start b
+module _ (start : TraceStart) (b : List ℕ) (x : Option Head) (e : x ≡ input_of b) where
+  pub ends_refused : (n : ℕ) → n ≡ 3 → x ≡ None → ended_at n (replicate words 0) ≡ ended_of start b
   unfolding ended_of input_end
-  ends_refused h = ap (ended_at 3) no_state ∙ ap (λ (y : Input). input_end start y b) (sym h ∙ e)
+  ends_refused n q h = ap (λ (m : ℕ). ended_at m (replicate words 0)) q ∙ ap (ended_at 3) no_state ∙ ap (λ (y : Option Head). input_end start y b) (sym h ∙ e)
 
-  pub ends_whole : (head : Head) (r : Ended) → x ≡ Whole head → r ≡ made_end start (P.new head.me none head.config) head b → r ≡ ended_of start b
+  pub ends_whole : (head : Head) (r : Ended) → x ≡ Some head → r ≡ made_end start (P.new head.me none head.config) head b → r ≡ ended_of start b
   unfolding ended_of input_end
-  ends_whole head r h k = k ∙ ap (λ (y : Input). input_end start y b) (sym h ∙ e)
+  ends_whole head r h k = k ∙ ap (λ (y : Option Head). input_end start y b) (sym h ∙ e)
 
-  pub there : (head : Head) → x ≡ Whole head → Laid b head
+  pub there : (head : Head) → x ≡ Some head → Laid b head
   there head h = laid b head (sym e ∙ h)

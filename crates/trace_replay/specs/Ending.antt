@@ -1,6 +1,6 @@
 -- Document 01, "The run program": how a history ends, from the room and the counters that it starts with.
 -- Assumes nothing.
-use Rattle.std.specs.Prelude.{ℕ, min, List, [], ◌∷◌, drop, eqb}
+use Rattle.std.specs.Prelude.{ℕ, min, List, [], ◌∷◌, drop, eqb, Option, Some, None}
 use Rattle.std.proofs.Math.Option.{none}
 use Rattle.std.proofs.Math.Seq.{slice}
 use Rattle.base_lists.specs.Lists.{choose}
@@ -11,8 +11,6 @@ use Rattle.hyparview_rules.specs.Pack.{pack}
 use Rattle.hyparview.specs.Room.{output_room}
 use Rattle.hyparview.specs.Handled.{handled}
 use Rattle.run_input.specs.declared.Head.{Head}
-use Rattle.run_input.specs.declared.Input.{Input}
-use Rattle.run_input.specs.declared.Input.TheVariants.{Refused, Whole}
 use Rattle.run_input.specs.Input.{head_length, numbers, cut_events, input_of}
 use Rattle.trace_replay.specs.declared.TraceStart.{TraceStart}
 use Rattle.trace_replay.specs.declared.Ended.{Ended}
@@ -56,9 +54,9 @@ made_end start m head b =
     choose (eqb m.code 0) (ended_at 0 (laid_words (room_of start) (pack (counting start m.state)) head b)) (ended_at m.code (pack m.state))
 
 -- an input that is refused as a whole: code 3, and "a state of zeroes"; "Own data is absent."
-unfoldable pub input_end : TraceStart → Input → List ℕ → Ended
-input_end start Refused b = ended_at 3 (pack zero_station)
-input_end start (Whole head) b = made_end start (new head.me none head.config) head b
+unfoldable pub input_end : TraceStart → Option Head → List ℕ → Ended
+input_end start None b = ended_at 3 (pack zero_station)
+input_end start (Some head) b = made_end start (new head.me none head.config) head b
 
 -- how the history of the input b ends
 unfoldable pub ended_of : TraceStart → List ℕ → Ended

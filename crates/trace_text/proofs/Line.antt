@@ -14,7 +14,7 @@ use borrow.Author.Tests.{eq-eqb, ne_eqb, eqb-true, eqb-false, lt-ltb, le-ltb, lt
 use Rattle.base_lists.specs.Lists.{choose}
 use Rattle.base_lists.proofs.Choice.{choose_yes, choose_no, split, and_left, and_right}
 use Rattle.base_peer.specs.Data.{Data}
-use Rattle.base_peer.specs.Held.{data_in}
+use Rattle.base_peer.specs.Held.{fields_in}
 use Rattle.base_util.specs.Section.{part, items_at}
 use Rattle.base_columns.specs.Columns.{numbers_at, data_map_at}
 use Rattle.hyparview_state.specs.declared.RefillLimit.{RefillLimit}
@@ -23,7 +23,7 @@ use Rattle.hyparview_state.specs.Layout as layout
 use Rattle.hyparview_state.specs.Layout.{words}
 use Rattle.hyparview_state.specs.Unpack.{own_at, limit_at}
 use Rattle.run_text.specs.declared.Text.{Text}
-use Rattle.run_text.specs.Text.{Puts}
+use Rattle.run_text.specs.Text.{Prints}
 use Rattle.run_text.specs.Numbers.{decimal}
 use Rattle.trace_text.specs.Items.{ascii, comma_before, item_text, items_text, list_field, number_field, numbered_text, held_text}
 use Rattle.trace_text.specs.Fields.{texts_at, field_at, InWords}
@@ -55,7 +55,7 @@ digit x = ltb 47 x && ltb x 53
 -- what is written for a byte of the line, where the next field is the k-th
 unfoldable pub byte_text : ℕ → ℕ → List ℕ → List ℕ
 byte_text x k xs =
-    choose (eqb x 79) (drop (length (ascii "state me=")) (own_field (data_in (own_at xs))))
+    choose (eqb x 79) (drop (length (ascii "state me=")) (own_field (fields_in (own_at xs))))
     (choose (eqb x 76) (drop (length (ascii " refill=")) (refill_field (limit_at xs))) (choose (digit x) (field_at (x - 48) (get_or places k 0) (get_or rooms k 0) xs) (x ∷ [])))
 
 -- which field is the next after it
@@ -124,9 +124,9 @@ module _ (xs : List ℕ) (name p : List ℕ) (k a n : ℕ) (plain : (q : List �
       ∙ sym (append_assoc name (decimal (get_or xs a 0)) _))
 
 module _ (xs : List ℕ) (p : List ℕ) where
-  own_line : line_text (ascii "state me=O" ++ p) 0 xs ≡ own_field (data_in (own_at xs)) ++ line_text p 0 xs
+  own_line : line_text (ascii "state me=O" ++ p) 0 xs ≡ own_field (fields_in (own_at xs)) ++ line_text p 0 xs
   unfolding line_text byte_text after digit choose ascii
-  own_line = sym (append_assoc (ascii "state me=") (drop (length (ascii "state me=")) (own_field (data_in (own_at xs)))) _) ∙ ap (λ (z : List ℕ). z ++ line_text p 0 xs) (own_whole (data_in (own_at xs)))
+  own_line = sym (append_assoc (ascii "state me=") (drop (length (ascii "state me=")) (own_field (fields_in (own_at xs)))) _) ∙ ap (λ (z : List ℕ). z ++ line_text p 0 xs) (own_whole (fields_in (own_at xs)))
 
   limit_line : (k : ℕ) → line_text (ascii " refill=L" ++ p) k xs ≡ refill_field (limit_at xs) ++ line_text p k xs
   unfolding line_text byte_text after digit choose ascii
@@ -268,7 +268,7 @@ module _ (xs : List ℕ) where
 
 pub line_is : (xs : List ℕ) → line_text line 0 xs ≡ state_line xs
 unfolding line ascii state_line
-line_is xs = own_line xs _ ∙ ap (λ (z : List ℕ). own_field (data_in (own_at xs)) ++ z) (fields_line xs)
+line_is xs = own_line xs _ ∙ ap (λ (z : List ℕ). own_field (fields_in (own_at xs)) ++ z) (fields_line xs)
 
 -- ---- the loop
 
@@ -294,28 +294,27 @@ columns_form c e =
     split (eqb c 4) (λ y. inr (inr (inr (eqb-true c 4 y)))) (λ n. few_columns c (ltb-true c 3 (ap (λ (b : Bool). b || ltb c 3) (sym n) ∙ e)))
 
 -- i bytes of the line are passed, and k fields
-pub record Lining (xs : List ℕ) (t : Text) (out : List ℕ) (r : Text) (o : List ℕ) (i k : ℕ) : Type 0 where
+pub record Lining (xs : List ℕ) (t r : Text) (i k : ℕ) : Type 0 where
   pub within : i ≤ line_size
   pub long : length xs ≡ words
   pub fits : line_fits (drop i line) k ≡ true
-  pub text : Writing (line_text line 0 xs) t out r o (line_text (drop i line) k xs)
-  pub len : length o ≡ length out
+  pub text : Writing (line_text line 0 xs) t r (line_text (drop i line) k xs)
 
-pub line_start : (xs : List ℕ) (t : Text) (out : List ℕ) → length xs ≡ words → Lining xs t out t out 0 0
+pub line_start : (xs : List ℕ) (t : Text) → length xs ≡ words → Lining xs t t 0 0
 unfolding line line_fits row_fits after digit choose places rooms ascii
-line_start xs t out l = record { within = omega arith; long = l; fits = refl; text = writing_start (line_text line 0 xs) t out; len = refl }
+line_start xs t l = record { within = omega arith; long = l; fits = refl; text = writing_start (line_text line 0 xs) t }
 
 line_long : length line ≡ line_size
 unfolding line ascii
 line_long = refl
 
-module _ (xs : List ℕ) (t : Text) (out : List ℕ) (r : Text) (o : List ℕ) (i k : ℕ) (v : Lining xs t out r o i k) where
+module _ (xs : List ℕ) (t r : Text) (i k : ℕ) (v : Lining xs t r i k) where
   here : i < line_size → drop i line ≡ get_or line i 0 ∷ drop (i + 1) line
   here h = let e : suc i ≡ i + 1 = omega arith in drop-cons line i 0 (omega (arith, h, line_long)) ∙ ap (λ (j : ℕ). get_or line i 0 ∷ drop j line) e
 
-  pub line_end : line_size ≤ i → Puts (state_line xs) t out r o
+  pub line_end : line_size ≤ i → Prints (state_line xs) t r
   unfolding line_text
-  line_end h = subst (λ (z : List ℕ). Puts z t out r o) (line_is xs) (writing_end v.text (let q : length line ≤ i = omega (arith, h, line_long) in ap (λ (z : List ℕ). line_text z k xs) (drop_of_length-le line q)))
+  line_end h = subst (λ (z : List ℕ). Prints z t r) (line_is xs) (writing_end v.text (let q : length line ≤ i = omega (arith, h, line_long) in ap (λ (z : List ℕ). line_text z k xs) (drop_of_length-le line q)))
 
   module _ (h : i < line_size) where
     fits_here : line_fits (get_or line i 0 ∷ drop (i + 1) line) k ≡ true
@@ -325,43 +324,41 @@ module _ (xs : List ℕ) (t : Text) (out : List ℕ) (r : Text) (o : List ℕ) (
     unfolding line_fits
     fits_after = and_right (choose (digit (get_or line i 0)) (row_fits (get_or line i 0 - 48) k) true) _ fits_here
 
-    next : (s : Text) (p x : List ℕ) (l : ℕ) → after (get_or line i 0) k ≡ l → byte_text (get_or line i 0) k xs ≡ x → Puts x r o s p → length p ≡ length o → Lining xs t out s p (i + 1) l
+    next : (s : Text) (x : List ℕ) (l : ℕ) → after (get_or line i 0) k ≡ l → byte_text (get_or line i 0) k xs ≡ x → Prints x r s → Lining xs t s (i + 1) l
     unfolding line_text
-    next s p x l f e u q = record {
+    next s x l f e u = record {
       within = omega (arith, h);
       long = v.long;
       fits = ap (λ (z : ℕ). line_fits (drop (i + 1) line) z) (sym f) ∙ fits_after;
-      text = writing_next v.text x (line_text (drop (i + 1) line) l xs) (ap (λ (z : List ℕ). line_text z k xs) (here h) ∙ (λ j. e j ++ line_text (drop (i + 1) line) (f j) xs)) u q;
-      len = q ∙ v.len;
+      text = writing_next v.text x (line_text (drop (i + 1) line) l xs) (ap (λ (z : List ℕ). line_text z k xs) (here h) ∙ (λ j. e j ++ line_text (drop (i + 1) line) (f j) xs)) u;
     }
 
     same_field : digit (get_or line i 0) ≡ false → after (get_or line i 0) k ≡ k
     unfolding after
     same_field n = choose_no _ _ _ n
 
-    module _ (s : Text) (p : List ℕ) where
-      pub own_next : get_or line i 0 ≡ 79 → Puts (drop (length (ascii "state me=")) (own_field (data_in (own_at xs)))) r o s p → length p ≡ length o → Lining xs t out s p (i + 1) k
+    module _ (s : Text) where
+      pub own_next : get_or line i 0 ≡ 79 → Prints (drop (length (ascii "state me=")) (own_field (fields_in (own_at xs)))) r s → Lining xs t s (i + 1) k
       unfolding byte_text
-      own_next e u q = next s p _ k (same_field (digit_over (get_or line i 0) (omega (arith, e)))) (choose_yes _ _ _ (eq-eqb (get_or line i 0) 79 e)) u q
+      own_next e u = next s _ k (same_field (digit_over (get_or line i 0) (omega (arith, e)))) (choose_yes _ _ _ (eq-eqb (get_or line i 0) 79 e)) u
 
-      pub limit_next : get_or line i 0 ≡ 76 → Puts (drop (length (ascii " refill=")) (refill_field (limit_at xs))) r o s p → length p ≡ length o → Lining xs t out s p (i + 1) k
+      pub limit_next : get_or line i 0 ≡ 76 → Prints (drop (length (ascii " refill=")) (refill_field (limit_at xs))) r s → Lining xs t s (i + 1) k
       unfolding byte_text
-      limit_next e u q =
-          next s p _ k (same_field (digit_over (get_or line i 0) (omega (arith, e))))
+      limit_next e u =
+          next s _ k (same_field (digit_over (get_or line i 0) (omega (arith, e))))
           (choose_no _ _ _ (ne_eqb (get_or line i 0) 79 (λ f. omega (arith, e, f))) ∙ choose_yes _ _ _ (eq-eqb (get_or line i 0) 76 e))
           u
-          q
 
-      byte_next : digit (get_or line i 0) ≡ false → (get_or line i 0 ≡ 79 → ⊥) → (get_or line i 0 ≡ 76 → ⊥) → Puts (get_or line i 0 ∷ []) r o s p → length p ≡ length o → Lining xs t out s p (i + 1) k
+      byte_next : digit (get_or line i 0) ≡ false → (get_or line i 0 ≡ 79 → ⊥) → (get_or line i 0 ≡ 76 → ⊥) → Prints (get_or line i 0 ∷ []) r s → Lining xs t s (i + 1) k
       unfolding byte_text
-      byte_next d f g u q =
-          next s p _ k (same_field d) (choose_no _ _ _ (ne_eqb (get_or line i 0) 79 f) ∙ (choose_no _ _ _ (ne_eqb (get_or line i 0) 76 g) ∙ choose_no _ _ _ d)) u q
+      byte_next d f g u =
+          next s _ k (same_field d) (choose_no _ _ _ (ne_eqb (get_or line i 0) 79 f) ∙ (choose_no _ _ _ (ne_eqb (get_or line i 0) 76 g) ∙ choose_no _ _ _ d)) u
 
-      pub under_next : get_or line i 0 < 48 → (get_or line i 0 ≡ 79 → ⊥) → (get_or line i 0 ≡ 76 → ⊥) → Puts (get_or line i 0 ∷ []) r o s p → length p ≡ length o → Lining xs t out s p (i + 1) k
-      under_next l f g u q = byte_next (digit_under (get_or line i 0) l) f g u q
+      pub under_next : get_or line i 0 < 48 → (get_or line i 0 ≡ 79 → ⊥) → (get_or line i 0 ≡ 76 → ⊥) → Prints (get_or line i 0 ∷ []) r s → Lining xs t s (i + 1) k
+      under_next l f g u = byte_next (digit_under (get_or line i 0) l) f g u
 
-      pub over_next : 53 ≤ get_or line i 0 → (get_or line i 0 ≡ 79 → ⊥) → (get_or line i 0 ≡ 76 → ⊥) → Puts (get_or line i 0 ∷ []) r o s p → length p ≡ length o → Lining xs t out s p (i + 1) k
-      over_next l f g u q = byte_next (digit_over (get_or line i 0) l) f g u q
+      pub over_next : 53 ≤ get_or line i 0 → (get_or line i 0 ≡ 79 → ⊥) → (get_or line i 0 ≡ 76 → ⊥) → Prints (get_or line i 0 ∷ []) r s → Lining xs t s (i + 1) k
+      over_next l f g u = byte_next (digit_over (get_or line i 0) l) f g u
 
     module _ (l : 48 ≤ get_or line i 0) (m : get_or line i 0 < 53) where
       fits_row : row_fits (get_or line i 0 - 48) k ≡ true
@@ -389,12 +386,11 @@ module _ (xs : List ℕ) (t : Text) (out : List ℕ) (r : Text) (o : List ℕ) (
             form = columns_form (get_or line i 0 - 48) (and_left (eqb (get_or line i 0 - 48) 4 || ltb (get_or line i 0 - 48) 3) _ fits_row);
           })
 
-      pub field_next : (s : Text) (p : List ℕ) → Puts (field_at (get_or line i 0 - 48) (get_or places k 0) (get_or rooms k 0) xs) r o s p → length p ≡ length o → Lining xs t out s p (i + 1) (k + 1)
+      pub field_next : (s : Text) → Prints (field_at (get_or line i 0 - 48) (get_or places k 0) (get_or rooms k 0) xs) r s → Lining xs t s (i + 1) (k + 1)
       unfolding byte_text after
-      field_next s p u q =
+      field_next s u =
           let e : suc k ≡ k + 1 = omega arith in
-          next s p _ (k + 1) (choose_yes _ _ _ (digit_yes (get_or line i 0) l m) ∙ e)
+          next s _ (k + 1) (choose_yes _ _ _ (digit_yes (get_or line i 0) l m) ∙ e)
           (choose_no _ _ _ (ne_eqb (get_or line i 0) 79 (λ f. omega (arith, m, f)))
           ∙ (choose_no _ _ _ (ne_eqb (get_or line i 0) 76 (λ f. omega (arith, m, f))) ∙ choose_yes _ _ _ (digit_yes (get_or line i 0) l m)))
           u
-          q

@@ -18,7 +18,7 @@ use Rattle.base_columns.specs.Columns.{numbers_at, word_bytes, row, head_of, tai
 use Rattle.base_columns.proofs.Data.{head_long, tail_long, head_read, low_read, high_read}
 use Rattle.base_columns.proofs.Rows.{length_rows, get_d_rows}
 use Rattle.run_text.specs.declared.Text.{Text}
-use Rattle.run_text.specs.Text.{Puts}
+use Rattle.run_text.specs.Text.{Prints}
 use Rattle.run_text.specs.Numbers.{decimal}
 use Rattle.run_text.proofs.Written.{nothing, then, named}
 use Rattle.trace_text.specs.Hex.{hex}
@@ -170,14 +170,13 @@ module _ (a k : ℕ) (xs : List ℕ) where
 -- ---- the loop
 
 -- the items before the i-th are written, of the items of the field as many as the count says and there is room for
-pub record Listed (c a k : ℕ) (xs : List ℕ) (count : ℕ) (t : Text) (out : List ℕ) (r : Text) (o : List ℕ) (i : ℕ) : Type 0 where
+pub record Listed (c a k : ℕ) (xs : List ℕ) (count : ℕ) (t r : Text) (i : ℕ) : Type 0 where
   pub form : InWords c a k (length xs)
   pub many : length (texts_at c a k xs) ≡ min count k
   pub within : i ≤ k
   pub inside : a + k ≤ length xs
   pub short : length xs * 8 < 2 ^ 63
-  pub text : Writing (field_at c a k xs) t out r o (items_text (λ (x : List ℕ). x) i (drop i (texts_at c a k xs)))
-  pub len : length o ≡ length out
+  pub text : Writing (field_at c a k xs) t r (items_text (λ (x : List ℕ). x) i (drop i (texts_at c a k xs)))
 
 module _ (c a k : ℕ) (xs : List ℕ) (w : InWords c a k (length xs)) where
   texts_none : c ≡ 0 → texts_at c a k xs ≡ decimal (get_or xs a 0) ∷ []
@@ -236,26 +235,26 @@ module _ (c a k : ℕ) (xs : List ℕ) (w : InWords c a k (length xs)) where
   alone : c ≡ 0 → length (texts_at c a k xs) ≡ min 1 k
   alone e = ap length (texts_none e) ∙ omega (arith, w.some)
 
-  start : (count : ℕ) (t : Text) (out : List ℕ) → length xs * 8 < 2 ^ 63 → length (texts_at c a k xs) ≡ min count k → Listed c a k xs count t out t out 0
+  start : (count : ℕ) (t : Text) → length xs * 8 < 2 ^ 63 → length (texts_at c a k xs) ≡ min count k → Listed c a k xs count t t 0
   unfolding field_at
-  start count t out b m = record { form = w; many = m; within = omega arith; inside = w.first; short = b; text = writing_start (field_at c a k xs) t out; len = refl }
+  start count t b m = record { form = w; many = m; within = omega arith; inside = w.first; short = b; text = writing_start (field_at c a k xs) t }
 
-  pub listed_some : (count : ℕ) (t : Text) (out : List ℕ) → length xs * 8 < 2 ^ 63 → (c ≡ 0 → ⊥) → count ≡ get_or xs (a + c * k) 0 → Listed c a k xs count t out t out 0
-  listed_some count t out b z e = start count t out b (counted z ∙ ap (λ (n : ℕ). min n k) (sym e))
+  pub listed_some : (count : ℕ) (t : Text) → length xs * 8 < 2 ^ 63 → (c ≡ 0 → ⊥) → count ≡ get_or xs (a + c * k) 0 → Listed c a k xs count t t 0
+  listed_some count t b z e = start count t b (counted z ∙ ap (λ (n : ℕ). min n k) (sym e))
 
-  pub listed_alone : (count : ℕ) (t : Text) (out : List ℕ) → length xs * 8 < 2 ^ 63 → c ≡ 0 → count ≡ 1 → Listed c a k xs count t out t out 0
-  listed_alone count t out b z e = start count t out b (alone z ∙ ap (λ (n : ℕ). min n k) (sym e))
+  pub listed_alone : (count : ℕ) (t : Text) → length xs * 8 < 2 ^ 63 → c ≡ 0 → count ≡ 1 → Listed c a k xs count t t 0
+  listed_alone count t b z e = start count t b (alone z ∙ ap (λ (n : ℕ). min n k) (sym e))
 
--- a comma or none, and what the ways leave where they meet
-pub comma_none : (i : ℕ) (t r : Text) (o p : List ℕ) → i ≡ 0 → r ≡ t → p ≡ o → Puts (comma_before i) t o r p
+-- a comma or none
+pub comma_none : (i : ℕ) (t : Text) → i ≡ 0 → Prints (comma_before i) t t
 unfolding comma_before
-comma_none i t r o p e f g = subst (λ (z : Text). Puts (comma_before i) t o z p) (sym f) (subst (λ (z : List ℕ). Puts (comma_before i) t o t z) (sym g) (named (sym (choose_yes _ _ _ (eq-eqb i 0 e))) nothing))
+comma_none i t e = named (sym (choose_yes _ _ _ (eq-eqb i 0 e))) nothing
 
-pub comma_some : (i : ℕ) (t r s : Text) (o p q : List ℕ) → (i ≡ 0 → ⊥) → Puts (44 ∷ []) t o s q → r ≡ s → p ≡ q → Puts (comma_before i) t o r p
+pub comma_some : (i : ℕ) (t r : Text) → (i ≡ 0 → ⊥) → Prints (44 ∷ []) t r → Prints (comma_before i) t r
 unfolding comma_before ascii
-comma_some i t r s o p q e k f g = subst (λ (z : Text). Puts (comma_before i) t o z p) (sym f) (subst (λ (z : List ℕ). Puts (comma_before i) t o s z) (sym g) (named (sym (choose_no _ _ _ (ne_eqb i 0 e))) k))
+comma_some i t r e k = named (sym (choose_no _ _ _ (ne_eqb i 0 e))) k
 
-module _ (c a k : ℕ) (xs : List ℕ) (count : ℕ) (t : Text) (out : List ℕ) (r : Text) (o : List ℕ) (i : ℕ) (v : Listed c a k xs count t out r o i) where
+module _ (c a k : ℕ) (xs : List ℕ) (count : ℕ) (t r : Text) (i : ℕ) (v : Listed c a k xs count t r i) where
   pub second_inside : i < k → 1 < c → a + i + k < length xs
   second_inside h l =
       ⊎_elim (λ e. absurd (omega (arith, e, l)))
@@ -274,14 +273,11 @@ module _ (c a k : ℕ) (xs : List ℕ) (count : ℕ) (t : Text) (out : List ℕ)
   pub fourth_inside : i < k → 1 < c → (c ≡ 2 → ⊥) → a + i + 3 * k < length xs
   fourth_inside h l n = let q = in_four c a k xs v.form (is_four l n) in omega (arith, q, h)
 
-  over : length (texts_at c a k xs) ≤ i → Puts (field_at c a k xs) t out r o
+  over : length (texts_at c a k xs) ≤ i → Prints (field_at c a k xs) t r
   unfolding items_text
   over h = writing_end v.text (ap (items_text (λ (x : List ℕ). x) i) (drop_of_length-le (texts_at c a k xs) h))
 
-  pub listed_counted : count ≤ i → Puts (field_at c a k xs) t out r o
-  listed_counted h = over (omega (arith, v.many, h))
-
-  pub listed_full : k ≤ i → Puts (field_at c a k xs) t out r o
+  pub listed_full : min count k ≤ i → Prints (field_at c a k xs) t r
   listed_full h = over (omega (arith, v.many, h))
 
   module _ (h : i < k) (l : i < count) where
@@ -293,16 +289,15 @@ module _ (c a k : ℕ) (xs : List ℕ) (count : ℕ) (t : Text) (out : List ℕ)
         ap (items_text (λ (x : List ℕ). x) i) (drop-cons (texts_at c a k xs) i [] (omega (arith, h, l, v.many)))
         ∙ ap (λ (j : ℕ). item_text (λ (x : List ℕ). x) i (get_or (texts_at c a k xs) i []) ++ items_text (λ (x : List ℕ). x) j (drop j (texts_at c a k xs))) e
 
-    next : (x : List ℕ) (s : Text) (p : List ℕ) → get_or (texts_at c a k xs) i [] ≡ x → Puts (comma_before i ++ x) r o s p → length p ≡ length o → Listed c a k xs count t out s p (i + 1)
+    next : (x : List ℕ) (s : Text) → get_or (texts_at c a k xs) i [] ≡ x → Prints (comma_before i ++ x) r s → Listed c a k xs count t s (i + 1)
     unfolding item_text
-    next x s p e u q = record {
+    next x s e u = record {
       form = v.form;
       many = v.many;
       within = omega (arith, h);
       inside = v.inside;
       short = v.short;
-      text = writing_next v.text (comma_before i ++ x) _ (one_item ∙ ap (λ (y : List ℕ). item_text (λ (z : List ℕ). z) i y ++ items_text (λ (z : List ℕ). z) (i + 1) (drop (i + 1) (texts_at c a k xs))) e) u q;
-      len = q ∙ v.len;
+      text = writing_next v.text (comma_before i ++ x) _ (one_item ∙ ap (λ (y : List ℕ). item_text (λ (z : List ℕ). z) i y ++ items_text (λ (z : List ℕ). z) (i + 1) (drop (i + 1) (texts_at c a k xs))) e) u;
     }
 
     single : c ≤ 1 → get_or (texts_at c a k xs) i [] ≡ decimal (get_or xs (a + i) 0)
@@ -313,33 +308,31 @@ module _ (c a k : ℕ) (xs : List ℕ) (count : ℕ) (t : Text) (out : List ℕ)
         (λ u. ⊎_elim (λ e. absurd (omega (arith, e, f))) (λ e. absurd (omega (arith, e, f))) u) s)
         v.form.form
 
-    module _ (r₁ r₂ : Text) (o₁ o₂ : List ℕ) (p₂ : Puts (decimal (get_or xs (a + i) 0)) r₁ o₁ r₂ o₂) (p₁ : Puts (comma_before i) r o r₁ o₁) where
-      pub single_next : c ≤ 1 → length o₂ ≡ length o → Listed c a k xs count t out r₂ o₂ (i + 1)
-      single_next f q = next _ r₂ o₂ (single f) (then p₂ p₁) q
+    module _ (r₁ r₂ : Text) (p₂ : Prints (decimal (get_or xs (a + i) 0)) r₁ r₂) (p₁ : Prints (comma_before i) r r₁) where
+      pub single_next : c ≤ 1 → Listed c a k xs count t r₂ (i + 1)
+      single_next f = next _ r₂ (single f) (then p₂ p₁)
 
-      module _ (r₃ r₄ : Text) (o₃ o₄ : List ℕ) (p₃ : Puts (58 ∷ []) r₂ o₂ r₃ o₃) (q : length o₄ ≡ length o) where
-        pub numbered_next : c ≡ 2 → Puts (decimal (get_or xs (a + i + k) 0)) r₃ o₃ r₄ o₄ → Listed c a k xs count t out r₄ o₄ (i + 1)
+      module _ (r₃ r₄ : Text) (p₃ : Prints (58 ∷ []) r₂ r₃) where
+        pub numbered_next : c ≡ 2 → Prints (decimal (get_or xs (a + i + k) 0)) r₃ r₄ → Listed c a k xs count t r₄ (i + 1)
         unfolding numbered_text ascii
         numbered_next e p₄ =
             let g : a + (k + i) ≡ a + i + k = omega arith in
-            next (numbered_text (get_or xs (a + i) 0, get_or xs (a + i + k) 0)) r₄ o₄
+            next (numbered_text (get_or xs (a + i) 0, get_or xs (a + i + k) 0)) r₄
             (ap (λ (y : List (List ℕ)). get_or y i []) (texts_two c a k xs v.form e)
             ∙ (two_text a k xs (in_two c a k xs v.form e) i (omega (arith, h, l, v.many, long_two c a k xs v.form e)) h ∙ ap (λ (j : ℕ). numbered_text (get_or xs (a + i) 0, get_or xs j 0)) g))
             (then (then (then p₄ p₃) p₂) p₁)
-            q
 
-        pub held_next : (b : List ℕ) → 1 < c → (c ≡ 2 → ⊥) → b ≡ word_bytes (get_or xs (a + i + 2 * k) 0) (get_or xs (a + i + 3 * k) 0) → Puts (hex (take (get_or xs (a + i + k) 0) b)) r₃ o₃ r₄ o₄
-            → Listed c a k xs count t out r₄ o₄ (i + 1)
+        pub held_next : (b : List ℕ) → 1 < c → (c ≡ 2 → ⊥) → b ≡ word_bytes (get_or xs (a + i + 2 * k) 0) (get_or xs (a + i + 3 * k) 0) → Prints (hex (take (get_or xs (a + i + k) 0) b)) r₃ r₄
+            → Listed c a k xs count t r₄ (i + 1)
         unfolding held_text ascii
         held_next b f n y p₄ =
             let e = is_four f n in
             let g : a + (k + i) ≡ a + i + k = omega arith in
             let g₂ : a + (k + k + i) ≡ a + i + 2 * k = omega arith in
             let g₃ : a + (k + k + k + i) ≡ a + i + 3 * k = omega arith in
-            next (held_text (get_or xs (a + i) 0, take (get_or xs (a + i + k) 0) b)) r₄ o₄
+            next (held_text (get_or xs (a + i) 0, take (get_or xs (a + i + k) 0) b)) r₄
             (ap (λ (z : List (List ℕ)). get_or z i []) (texts_four c a k xs v.form e)
             ∙ (four_text a k xs (in_four c a k xs v.form e) i (omega (arith, h, l, v.many, long_four c a k xs v.form e)) h
             ∙ ((λ j. held_text (get_or xs (a + i) 0, take (get_or xs (g j) 0) (word_bytes (get_or xs (g₂ j) 0) (get_or xs (g₃ j) 0))))
             ∙ ap (λ (z : List ℕ). held_text (get_or xs (a + i) 0, take (get_or xs (a + i + k) 0) z)) (sym y))))
             (then (then (then p₄ p₃) p₂) p₁)
-            q

@@ -3,7 +3,7 @@
 use Rattle.std.specs.Prelude.{ℕ, List, ◌++◌}
 use Rattle.std.proofs.Math.Option.{none, some}
 use Rattle.base_peer.specs.Data.{Data}
-use Rattle.base_peer.specs.Held.{data_in}
+use Rattle.base_peer.specs.Held.{fields_in}
 use Rattle.record.specs.Walk.{records_in}
 use Rattle.base_util.specs.Section.{items_at}
 use Rattle.base_columns.specs.Columns.{numbers_at, data_map_at}
@@ -53,7 +53,7 @@ fields_text xs =
 
 -- the line of a state, of its words
 unfoldable pub state_line : List ℕ → List ℕ
-state_line xs = own_field (data_in (own_at xs)) ++ fields_text xs
+state_line xs = own_field (fields_in (own_at xs)) ++ fields_text xs
 
 -- an event: its output, its code, the draws used, and the words of the state
 unfoldable pub trace_event : List ℕ → ℕ → ℕ → List ℕ → List ℕ

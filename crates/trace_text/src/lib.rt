@@ -3,16 +3,17 @@
 
 ghost use Rattle.std.specs.Prelude.{◌≡◌, length, take};
 ghost use Rattle.record.specs.Walk.{records_in};
-ghost use Rattle.base_peer.specs.Held.{data_in};
+ghost use Rattle.base_peer.specs.Held.{fields_in};
 ghost use Rattle.hyparview_state.specs.Layout.{words};
 ghost use Rattle.hyparview_state.specs.Unpack.{own_at, limit_at};
 ghost use Rattle.run_text.specs.Text.{Prints};
 ghost use Rattle.trace_text.specs.Hex.{hex, hex_lines};
-ghost use Rattle.trace_text.specs.Items.{after_name};
+ghost use Rattle.trace_text.specs.Items.{comma_before, after_name};
 ghost use Rattle.trace_text.specs.Fields.{InWords, field_at};
 ghost use Rattle.trace_text.specs.Event.{own_field, refill_field, trace_event};
 
 use hyparview_state::{Layout, RefillLimit};
+use record::Records;
 use run_text::Text;
 
 // ---- bytes in hex
@@ -21,44 +22,25 @@ use run_text::Text;
 const LETTERS: u8 = b'a' - b'0' - 10;
 
 // The first n of the bytes.
-fn put_front(out: &mut [u8], t: Text, bytes: &[u8], n: u64) -> Text
-    ensures { Prints (hex (take n bytes.now)) t result out }
+fn put_front(t: &mut Text, bytes: &[u8], n: usize)
+    ensures { Prints (hex (take n bytes.now)) t.old t.new }
 {
-    let mut r = t;
-    let mut i: usize = 0;
-    while i < bytes.len() {
-        if n <= i as u64 {
-            return r;
-        }
-        let high = bytes[i] / 16;
-        let low = bytes[i] % 16;
-        i += 1;
-        r = run_text::put(out, r, b'0' + high + LETTERS * (high / 10));
-        r = run_text::put(out, r, b'0' + low + LETTERS * (low / 10));
+    for &x in &bytes[..n.min(bytes.len())] {
+        let high = x / 16;
+        let low = x % 16;
+        t.put(b'0' + high + LETTERS * (high / 10));
+        t.put(b'0' + low + LETTERS * (low / 10));
     }
-    r
 }
 
 // A line for each record, taken by its whole length; one that the end cuts off is the last, and is shown as far as it goes.
-fn put_record_lines(out: &mut [u8], t: Text, records: &[u8]) -> Text
-    ensures { Prints (hex_lines (records_in records.now)) t result out }
+fn put_record_lines(t: &mut Text, records: &[u8])
+    ensures { Prints (hex_lines (records_in records.now)) t.old t.new }
 {
-    let mut r = t;
-    let mut rest = records;
-    while record::HEADER <= rest.len() {
-        let h = record::read_header(rest);
-        let n = h.size as usize;
-        if n == 0 {
-            return r;
-        }
-        r = put_front(out, r, rest, h.size as u64);
-        r = run_text::put(out, r, b'\n');
-        if rest.len() < n {
-            return r;
-        }
-        rest = &rest[n..];
+    for (h, bytes) in Records::of(records) {
+        put_front(t, bytes, h.size as usize);
+        t.put(b'\n');
     }
-    r
 }
 
 // ---- the line of a state
@@ -110,109 +92,101 @@ const FIELD_ROOMS: [usize; 16] = [
 ];
 // end
 
-// The items of a field, as many as its count says and there is room for. The count stands behind the columns; a number is one item and has none.
-fn put_items(out: &mut [u8], t: Text, st: &[u64], columns: usize, at: usize, room: usize) -> Text
-    requires { InWords columns at room (length st.now) }
-    ensures { Prints (field_at columns at room st.now) t result out }
+// A comma before every item but the first.
+fn put_comma(t: &mut Text, i: usize)
+    ensures { Prints (comma_before i) t.old t.new }
 {
-    let mut count = 1;
-    if columns != 0 {
-        count = st[at + columns * room];
+    if i != 0 {
+        t.put(b',');
     }
-    let mut r = t;
-    let mut i: usize = 0;
-    while i < room {
-        if count <= i as u64 {
-            return r;
-        }
-        // A comma before every item but the first.
-        let later = i != 0;
-        if later {
-            r = run_text::put(out, r, b',');
-        }
+}
+
+// The items of a field, as many as its count says and there is room for. The count stands behind the columns; a number is one item and has none.
+fn put_items(t: &mut Text, st: &[u64], columns: usize, at: usize, room: usize)
+    requires { InWords columns at room (length st.now) }
+    ensures { Prints (field_at columns at room st.now) t.old t.new }
+{
+    let count = if columns == 0 {
+        1
+    } else {
+        st[at + columns * room] as usize
+    };
+    for i in 0..count.min(room) {
+        put_comma(t, i);
         let place = at + i;
-        i += 1;
-        r = run_text::put_decimal(out, r, st[place]);
+        t.put_decimal(st[place]);
         if 1 < columns {
-            r = run_text::put(out, r, b':');
+            t.put(b':');
             let value = st[place + room];
             if columns == 2 {
-                r = run_text::put_decimal(out, r, value);
+                t.put_decimal(value);
             } else {
                 // The value is how many bytes there are, in two more words.
                 let bytes = base_columns::bytes_of(st[place + 2 * room], st[place + 3 * room]);
-                r = put_front(out, r, &bytes, value);
+                put_front(t, &bytes, value as usize);
             }
         }
     }
-    r
 }
 
 // The station's own data, without the name of the field.
-fn put_own(out: &mut [u8], t: Text, st: &[u64]) -> Text
+fn put_own(t: &mut Text, st: &[u64])
     requires { length st.now ≡ words }
-    ensures { Prints (after_name "state me=" (own_field (data_in (own_at st.now)))) t result out }
+    ensures { Prints (after_name "state me=" (own_field (fields_in (own_at st.now)))) t.old t.new }
 {
     if st[Layout::OWN_PRESENT] == 1 {
-        let r = run_text::put(out, t, b'x');
+        t.put(b'x');
         let bytes = base_columns::bytes_of(st[Layout::OWN_LOW], st[Layout::OWN_HIGH]);
-        return put_front(out, r, &bytes, st[Layout::OWN_LEN]);
+        put_front(t, &bytes, st[Layout::OWN_LEN] as usize);
+    } else {
+        t.put(b'-');
     }
-    run_text::put(out, t, b'-')
 }
 
 // The limit on refills, without the name of the field.
-fn put_limit(out: &mut [u8], t: Text, st: &[u64]) -> Text
+fn put_limit(t: &mut Text, st: &[u64])
     requires { length st.now ≡ words }
-    ensures { Prints (after_name " refill=" (refill_field (limit_at st.now))) t result out }
+    ensures { Prints (after_name " refill=" (refill_field (limit_at st.now))) t.old t.new }
 {
-    let kind = st[Layout::REFILL_KIND];
-    if kind == RefillLimit::AUTOMATIC {
-        return run_text::put(out, t, b'A');
+    match st[Layout::REFILL_KIND] {
+        RefillLimit::AUTOMATIC => t.put(b'A'),
+        RefillLimit::REQUESTS_LEFT => {
+            t.put(b'R');
+            t.put_decimal(st[Layout::REFILL_REQUESTS]);
+        }
+        _ => t.put(b'V'),
     }
-    if kind == RefillLimit::REQUESTS_LEFT {
-        let r = run_text::put(out, t, b'R');
-        return run_text::put_decimal(out, r, st[Layout::REFILL_REQUESTS]);
-    }
-    run_text::put(out, t, b'V')
 }
 
 // One event: its output records, its code with the draws used, and the state.
 pub fn put_trace_event(
-    out: &mut [u8],
-    t: Text,
+    t: &mut Text,
     records: &[u8],
     code: u32,
     draws: usize,
     st: &[u64; Layout::LENGTH],
-) -> Text
-    ensures { Prints (trace_event records.now code draws st.now) t result out }
+)
+    ensures { Prints (trace_event records.now code draws st.now) t.old t.new }
 {
-    let mut r = put_record_lines(out, t, records);
-    r = run_text::put_end(out, r, code, draws as u64);
+    put_record_lines(t, records);
+    t.put_end(code, draws as u64);
     // The line of the state.
-    let words: &[u64] = st;
-    let mut i: usize = 0;
     let mut field: usize = 0;
-    while i < STATE_LINE.len() {
-        let x = STATE_LINE[i];
-        i += 1;
+    for x in STATE_LINE {
         match x {
-            b'O' => r = put_own(out, r, words),
-            b'L' => r = put_limit(out, r, words),
+            b'O' => put_own(t, st),
+            b'L' => put_limit(t, st),
             b'0'..=b'4' => {
-                r = put_items(
-                    out,
-                    r,
-                    words,
+                put_items(
+                    t,
+                    st,
                     (x - b'0') as usize,
                     FIELD_PLACES[field],
                     FIELD_ROOMS[field],
                 );
                 field += 1;
             }
-            _ => r = run_text::put(out, r, x),
+            _ => t.put(x),
         }
     }
-    r
 }

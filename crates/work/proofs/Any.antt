@@ -13,8 +13,7 @@ use Rattle.base_lists.proofs.Bytes.{length_overwrite}
 use Rattle.base_lists.proofs.Choice.{split, choose_yes, choose_no}
 use Rattle.base_util.specs.Chances.{pick_draws, shuffle_draws}
 use Rattle.record.specs.Format.{Rec, size, encode}
-use Rattle.record_writer.specs.declared.Written.{Written}
-use Rattle.record_writer.specs.declared.Written.TheVariants.{At, Full}
+use Rattle.std.specs.Prelude.{Option, Some, None}
 use Rattle.record_writer.specs.Write.{fits, reached, written, Wrote}
 use Rattle.work.specs.Run.{Run, guard, emit, draw, to_draw, draw_one_of, draw_shuffle, require}
 use Rattle.work.specs.declared.Work.{Work}
@@ -28,8 +27,8 @@ module _ (w : Work) (k : ℕ) (t : Bool) where
   pub required_held : w.code ≡ 0 → t ≡ true → ChangesAny (require k t) w w
   required_held h e = record { drawn = refl; written = refl; same = (require_held (work_of w []) tt k t h e).same }
 
-  pub required_refused : w.code ≡ 0 → t ≡ false → ChangesAny (require k t) w (record { drawn = w.drawn; written = w.written; code = k })
-  required_refused h e = record { drawn = refl; written = refl; same = (require_refused (work_of w []) tt k t h e).same }
+  pub required_refused : (c : ℕ) → c ≡ k → w.code ≡ 0 → t ≡ false → ChangesAny (require k t) w (record { drawn = w.drawn; written = w.written; code = c })
+  required_refused c q h e = rw q (record { drawn = refl; written = refl; same = (require_refused (work_of w []) tt k t h e).same })
 
 module _ (w : Work) (ds : List ℕ) (n : ℕ) (l : w.drawn ≤ length ds) where
   drew_passed : (w.code ≡ 0 → ⊥) → DrawsAny (draw n) w w ds
@@ -46,19 +45,19 @@ module _ (w : Work) (ds : List ℕ) (l : w.drawn ≤ length ds) (next : ℕ) whe
   pub reach_passed : (w.code ≡ 0 → ⊥) → Reaches next w w ds
   reach_passed h = record { taken = λ n e. drew_passed w ds n l h }
 
-  pub reach_short : w.code ≡ 0 → length ds < next → Reaches next w (record { drawn = w.drawn; written = w.written; code = 5 }) ds
-  reach_short h f = record { taken = λ n e. drew_short w ds n l h (omega arith) }
+  pub reach_short : (c : ℕ) → c ≡ 5 → w.code ≡ 0 → length ds < next → Reaches next w (record { drawn = w.drawn; written = w.written; code = c }) ds
+  reach_short c q h f = rw q (record { taken = λ n e. drew_short w ds n l h (omega arith) })
 
   pub reach_next : w.code ≡ 0 → next ≤ length ds → Reaches next w (record { drawn = next; written = w.written; code = w.code }) ds
   reach_next h f = record { taken = λ n e. rw e (drew w ds n l h (omega arith)) }
 
-kept : (a : Written) (w : Work) → (after_record a w).drawn ≡ w.drawn
+kept : (a : Option ℕ) (w : Work) → (after_record a w).drawn ≡ w.drawn
 unfolding after_record
-kept (At n) w = refl
-kept Full w = refl
+kept (Some n) w = refl
+kept None w = refl
 
 module _ (w : Work) (out : List ℕ) (e : Rec) (l : w.written ≤ length out) where
-  within : (a : Written) (o : List ℕ) → Wrote e w.written out a o → (after_record a w).written ≤ length o
+  within : (a : Option ℕ) (o : List ℕ) → Wrote e w.written out a o → (after_record a w).written ≤ length o
   unfolding reached written fits after_record
   within a o k =
       split (leb (w.written + size e) (length out))
@@ -68,7 +67,7 @@ module _ (w : Work) (out : List ℕ) (e : Rec) (l : w.written ≤ length out) wh
   pub emitted_passed : (w.code ≡ 0 → ⊥) → TellsAny (emit e) w w out out
   emitted_passed h = record { drawn = refl; written = l; same = (emit_passed w [] out e (record { packed = tt; written = l }) h).same }
 
-  pub emitted : (a : Written) (o : List ℕ) (r : Work) → w.code ≡ 0 → Wrote e w.written out a o → r ≡ after_record a w → TellsAny (emit e) w r out o
+  pub emitted : (a : Option ℕ) (o : List ℕ) (r : Work) → w.code ≡ 0 → Wrote e w.written out a o → r ≡ after_record a w → TellsAny (emit e) w r out o
   emitted a o r h k q = record {
     drawn = rw q (kept a w);
     written = rw q (within a o k);

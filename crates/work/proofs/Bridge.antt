@@ -1,11 +1,11 @@
 -- From the code's work and words to the definition's run: the terms that prove a step.
 -- Assumes nothing.
-use Prim.Native.Nat.{ℕ, zero, suc, ◌+◌, ◌≤◌, ◌<◌}
+use Prim.Native.Nat.{ℕ, ◌+◌, ◌≤◌, ◌<◌}
 use mathlib.Core.Path.{◌≡◌, refl, sym, ap, ◌∙◌, subst}
 use mathlib.Core.Bool.{Bool, true, false}
-use mathlib.Core.List.{List, [], ◌∷◌}
+use mathlib.Core.List.{List, []}
 use native.Mathlib.Omega.{arith}
-use lib.ListN.{length, get_or}
+use lib.ListN.{length}
 use lib.Dec.{eqb}
 use lib.Seq.{length-take-le}
 use borrow.Author.Tests.{eq-eqb, ne_eqb, eqb-true, eqb-false, le-leb, lt-leb, leb-true}
@@ -16,8 +16,7 @@ use Rattle.base_lists.proofs.Bytes.{length_overwrite}
 use Rattle.base_lists.proofs.Stored.{take_stored}
 use Rattle.record.specs.Format.{Rec, size, encode}
 use Rattle.record.proofs.Format.{length_encode}
-use Rattle.record_writer.specs.declared.Written.{Written}
-use Rattle.record_writer.specs.declared.Written.TheVariants.{At, Full}
+use Rattle.std.specs.Prelude.{Option, Some, None}
 use Rattle.record_writer.specs.Write.{fits, reached, written, Wrote}
 use Rattle.work.specs.Run.{Run, guard, on, emit, draw, require}
 use Rattle.work.specs.declared.Work.{Work}
@@ -105,7 +104,7 @@ module _ {S : Type 0} {F : Form S} where
     unfolding run_of emit
     emit_passed h = record { room = v; drawn = refl; same = λ ds. sym (guard_shut _ _ h) }
 
-    emit_full : w.code ≡ 0 → fits e w.written (length out) ≡ false → Tells F (emit e) (work_of w xs) (work_of (after_record Full w) xs) out out
+    emit_full : w.code ≡ 0 → fits e w.written (length out) ≡ false → Tells F (emit e) (work_of w xs) (work_of (after_record None w) xs) out out
     unfolding run_of emit fits after_record
     emit_full h f = record {
       room = record { packed = v.packed; written = v.written };
@@ -113,7 +112,7 @@ module _ {S : Type 0} {F : Form S} where
       same = λ ds. sym (guard_open _ _ h ∙ choose_no _ _ _ (rw (length-take-le w.written out v.written) f));
     }
 
-    emit_told : w.code ≡ 0 → fits e w.written (length out) ≡ true → Tells F (emit e) (work_of w xs) (work_of (after_record (At (w.written + size e)) w) xs) out (overwrite out w.written (encode e))
+    emit_told : w.code ≡ 0 → fits e w.written (length out) ≡ true → Tells F (emit e) (work_of w xs) (work_of (after_record (Some (w.written + size e)) w) xs) out (overwrite out w.written (encode e))
     unfolding run_of emit fits after_record
     emit_told h f =
         let at = w.written in
@@ -128,16 +127,16 @@ module _ {S : Type 0} {F : Form S} where
         }
 
     -- what the writer answered and wrote
-    emit_wrote : (a : Written) (o : List ℕ) → w.code ≡ 0 → Wrote e w.written out a o → Tells F (emit e) (work_of w xs) (work_of (after_record a w) xs) out o
+    emit_wrote : (a : Option ℕ) (o : List ℕ) → w.code ≡ 0 → Wrote e w.written out a o → Tells F (emit e) (work_of w xs) (work_of (after_record a w) xs) out o
     unfolding reached written
     emit_wrote a o h k =
         split (fits e w.written (length out))
-        (λ t. subst (λ (x : Written). Tells F (emit e) (work_of w xs) (work_of (after_record x w) xs) out o) (sym (k.answer ∙ choose_yes _ _ _ t))
-        (subst (λ (x : List ℕ). Tells F (emit e) (work_of w xs) (work_of (after_record (At (w.written + size e)) w) xs) out x) (sym (k.bytes ∙ choose_yes _ _ _ t)) (emit_told h t)))
-        (λ t. subst (λ (x : Written). Tells F (emit e) (work_of w xs) (work_of (after_record x w) xs) out o) (sym (k.answer ∙ choose_no _ _ _ t))
-        (subst (λ (x : List ℕ). Tells F (emit e) (work_of w xs) (work_of (after_record Full w) xs) out x) (sym (k.bytes ∙ choose_no _ _ _ t)) (emit_full h t)))
+        (λ t. subst (λ (x : Option ℕ). Tells F (emit e) (work_of w xs) (work_of (after_record x w) xs) out o) (sym (k.answer ∙ choose_yes _ _ _ t))
+        (subst (λ (x : List ℕ). Tells F (emit e) (work_of w xs) (work_of (after_record (Some (w.written + size e)) w) xs) out x) (sym (k.bytes ∙ choose_yes _ _ _ t)) (emit_told h t)))
+        (λ t. subst (λ (x : Option ℕ). Tells F (emit e) (work_of w xs) (work_of (after_record x w) xs) out o) (sym (k.answer ∙ choose_no _ _ _ t))
+        (subst (λ (x : List ℕ). Tells F (emit e) (work_of w xs) (work_of (after_record None w) xs) out x) (sym (k.bytes ∙ choose_no _ _ _ t)) (emit_full h t)))
 
-    pub emit_done : (a : Written) (o : List ℕ) (r : Work) → w.code ≡ 0 → Wrote e w.written out a o → r ≡ after_record a w → Tells F (emit e) (work_of w xs) (work_of r xs) out o
+    pub emit_done : (a : Option ℕ) (o : List ℕ) (r : Work) → w.code ≡ 0 → Wrote e w.written out a o → r ≡ after_record a w → Tells F (emit e) (work_of w xs) (work_of r xs) out o
     emit_done a o r h k q = subst (λ (x : Work). Tells F (emit e) (work_of w xs) (work_of x xs) out o) (sym q) (emit_wrote a o h k)
 
   pub require_said : (w a : Held) (k : ℕ) (t : Bool) → 1 ≤ k → Changes F (require k t) w a → a.code ≡ 0 → (F.unpack a.state ≡ F.unpack w.state) × (t ≡ true)
@@ -258,8 +257,3 @@ module _ {S : Type 0} (F : Form S) where
   pub at_run : (w : Held) (ds out : List ℕ) {A : Type 0} (f : S → A) → f (F.unpack w.state) ≡ f (run_of F w ds out).station
   unfolding run_of
   at_run w ds out f = refl
-
-pub get_d_past : (l : List ℕ) (i : ℕ) → length l ≤ i → 0 ≡ get_or l i 0
-get_d_past [] i h = refl
-get_d_past (x ∷ l) zero h = absurd (omega (arith, h))
-get_d_past (x ∷ l) (suc i) h = get_d_past l i (omega (arith, h))

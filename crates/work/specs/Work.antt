@@ -1,9 +1,7 @@
 -- The run that a `Work` and the words stand for, and what a step in code has to do: four contract shapes, by what the step is lent beside the words.
 -- Assumes nothing.
-use Rattle.std.specs.Prelude.{ℕ, ◌+◌, ◌≤◌, ◌≡◌, List, [], length, take}
+use Rattle.std.specs.Prelude.{ℕ, ◌+◌, ◌≤◌, ◌≡◌, List, [], length, take, Option, Some, None}
 pub use Rattle.base_lists.specs.Lent.{Slice, MutSlice, Lent, Seen}
-use Rattle.record_writer.specs.declared.Written.{Written}
-use Rattle.record_writer.specs.declared.Written.TheVariants.{At, Full}
 use Rattle.work.specs.declared.Work.{Work}
 use Rattle.work.specs.Run.{Run, draw}
 
@@ -155,6 +153,6 @@ abbrev pub Emits : Stateless → Work → Work → Lent → Type 0
 Emits step w r out = TellsAny step w r out.entry.now out.exit.now
 
 -- the work after a record: the place reached, or code 9
-unfoldable pub after_record : Written → Work → Work
-after_record (At n) w = record { drawn = w.drawn; written = n; code = w.code }
-after_record Full w = record { drawn = w.drawn; written = w.written; code = 9 }
+unfoldable pub after_record : Option ℕ → Work → Work
+after_record (Some n) w = record { drawn = w.drawn; written = n; code = w.code }
+after_record None w = record { drawn = w.drawn; written = w.written; code = 9 }

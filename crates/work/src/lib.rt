@@ -3,19 +3,20 @@
 
 ghost use Rattle.std.specs.Prelude.{◌≡◌, [], ◌∷◌, ◌≤◌, ◌<◌, length, get_or, drop};
 ghost use Rattle.base_util.specs.Chances.{pick, shuffle};
-ghost use Rattle.base_peer.specs.Held.{ValidData, node_in};
+ghost use Rattle.base_peer.specs.Held.{node_in};
 ghost use Rattle.base_util.specs.Section.{items_at, working_places, ValidSet, ChangesSet};
-ghost use Rattle.record_writer.specs.Nodes.{ValidNodes, nodes_in};
+ghost use Rattle.record.specs.Refusals.{refusal_code};
+ghost use Rattle.record_writer.specs.Nodes.{nodes_in};
 ghost use Rattle.record_writer.specs.Write.{rec_in};
 ghost use Rattle.work.specs.Run.{draw, draw_one_of, draw_shuffle, require, emit, message, timer, notice, node_notice};
 ghost use Rattle.work.specs.Work.{ChangesAny, DrawsAny, Reaches, Emits, after_record};
 
 use base_peer::{PeerId, PeerInfo};
 use record::{Kind, Refusal};
-use record_writer::{Fields, Nodes, Written};
+use record_writer::{Fields, Nodes};
 
 // The draws used and the bytes written so far, and a code that is 0 while all is well.
-#[derive(Clone, Copy)]
+#[derive(Clone, Copy, Default)]
 pub struct Work {
     pub drawn: usize,
     pub written: usize,
@@ -46,13 +47,13 @@ fn reach(w: Work, draws: &[u32], next: usize) -> Work
     if w.code != 0 {
         return w;
     }
-    let mut r = w;
     if draws.len() < next {
-        r.code = Refusal::DRAWS;
-        return r;
+        return Work {
+            code: Refusal::Draws.into(),
+            ..w
+        };
     }
-    r.drawn = next;
-    r
+    Work { drawn: next, ..w }
 }
 
 // Takes the next draw, which a delay never passes over; code 5 where there is none, and then the value is 0.
@@ -63,13 +64,10 @@ pub fn draw(w: Work, draws: &[u32]) -> Drawn
 {
     let at = w.drawn;
     let a = reach(w, draws, at + 1);
-    if at < draws.len() {
-        return Drawn {
-            work: a,
-            value: draws[at],
-        };
+    Drawn {
+        work: a,
+        value: draws.get(at).copied().unwrap_or(0),
     }
-    Drawn { work: a, value: 0 }
 }
 
 // Takes the draws that decide one of n places, with those passed over; code 5 where none is kept.
@@ -80,9 +78,10 @@ pub fn draw_one_of(w: Work, draws: &[u32], n: usize) -> Chosen
     ensures index_value { (result.index ≡ pick n (drop w.drawn draws.now)) × (result.index < n) }
 {
     let p = base_util::pick_index(draws, w.drawn, n);
-    let i = p.index;
-    let a = reach(w, draws, p.next);
-    Chosen { work: a, index: i }
+    Chosen {
+        work: reach(w, draws, p.next),
+        index: p.index,
+    }
 }
 
 // Shuffles a working set of 32 places where it lies, and takes the draws of that; code 5 where there are not so many.
@@ -98,9 +97,9 @@ pub fn shuffle_by_draws(w: Work, draws: &[u32], v: &mut [u64]) -> Work
 
 // ---- refusals and records
 
-// A refusal with this code, unless the test holds.
-pub fn require(w: Work, code: u32, test: bool) -> Work
-    ensures { ChangesAny (require code test) w result }
+// This refusal, unless the test holds.
+pub fn require(w: Work, refusal: Refusal, test: bool) -> Work
+    ensures { ChangesAny (require (refusal_code refusal) test) w result }
 {
     if w.code != 0 {
         return w;
@@ -108,29 +107,27 @@ pub fn require(w: Work, code: u32, test: bool) -> Work
     if test {
         return w;
     }
-    let mut r = w;
-    r.code = code;
-    r
-}
-
-// The work after a record was written, or was found not to fit.
-fn after_record(w: Work, a: Written) -> Work
-    ensures { result ≡ after_record a w }
-{
-    let mut r = w;
-    match a {
-        Written::At(n) => {
-            r.written = n;
-            r
-        }
-        Written::Full => {
-            r.code = Refusal::OUTPUT;
-            r
-        }
+    Work {
+        code: refusal.into(),
+        ..w
     }
 }
 
-// A record without nodes into the output; code 9 where it does not fit.
+// The work after a record was written up to this place, or was found not to fit.
+fn after_record(w: Work, a: Option<usize>) -> Work
+    ensures { result ≡ after_record a w }
+{
+    match a {
+        Some(n) => Work { written: n, ..w },
+        None => Work {
+            code: Refusal::Output.into(),
+            ..w
+        },
+    }
+}
+
+// A record without nodes into the output; code 9 where it does not fit. One function with a closure that writes would take the record as a
+// ghost value besides, which is no plainer than three such bodies.
 fn emit_bare(w: Work, out: &mut [u8], f: Fields) -> Work
     requires { w.written ≤ length out.old }
     ensures { Emits (emit (rec_in f [])) w result out }
@@ -138,37 +135,44 @@ fn emit_bare(w: Work, out: &mut [u8], f: Fields) -> Work
     if w.code != 0 {
         return w;
     }
-    let at = w.written;
-    let a = record_writer::write_bare(out, at, f);
-    after_record(w, a)
+    after_record(w, record_writer::write_bare(out, w.written, f))
 }
 
 // A record with one node.
 fn emit_one(w: Work, out: &mut [u8], f: Fields, p: PeerInfo) -> Work
-    requires written_in_bounds { w.written ≤ length out.old }
-    requires valid_data { ValidData p.data }
+    requires { w.written ≤ length out.old }
     ensures { Emits (emit (rec_in f (node_in p ∷ []))) w result out }
 {
     if w.code != 0 {
         return w;
     }
-    let at = w.written;
-    let a = record_writer::write_one(out, at, f, p);
-    after_record(w, a)
+    after_record(w, record_writer::write_one(out, w.written, f, p))
 }
 
 // A record with these nodes.
-fn emit_nodes(w: Work, out: &mut [u8], f: Fields, ns: Nodes) -> Work
-    requires written_in_bounds { w.written ≤ length out.old }
-    requires valid_nodes { ValidNodes ns }
-    ensures { Emits (emit (rec_in f (nodes_in ns))) w result out }
+fn emit_nodes(w: Work, out: &mut [u8], f: Fields, ns: &Nodes) -> Work
+    requires { w.written ≤ length out.old }
+    ensures { Emits (emit (rec_in f (nodes_in ns.now))) w result out }
 {
     if w.code != 0 {
         return w;
     }
-    let at = w.written;
-    let a = record_writer::write(out, at, f, ns);
-    after_record(w, a)
+    after_record(w, record_writer::write(out, w.written, f, ns))
+}
+
+// The fields of a record that has but its kind and its peer.
+fn plain(kind: u8, p: PeerId) -> Fields
+    ensures { result ≡ record { kind = kind; message = 0; flags = 0; peer = p; second = 0; ttl = 0; number = 0 } }
+{
+    Fields {
+        kind,
+        message: 0,
+        flags: 0,
+        peer: p,
+        second: 0,
+        ttl: 0,
+        number: 0,
+    }
 }
 
 // `io.schedule`: a timer of this kind about a peer, after so many milliseconds, with its number.
@@ -177,13 +181,9 @@ pub fn schedule(w: Work, out: &mut [u8], kind: u8, p: PeerId, delay: u64, number
     ensures { Emits (emit (timer kind p delay number)) w result out }
 {
     let f = Fields {
-        kind: kind,
-        message: 0,
-        flags: 0,
-        peer: p,
         second: delay,
-        ttl: 0,
-        number: number,
+        number,
+        ..plain(kind, p)
     };
     emit_bare(w, out, f)
 }
@@ -198,20 +198,10 @@ pub fn notify(w: Work, out: &mut [u8], kind: u8, p: PeerId) -> Work
 
 // `io.emit`: a notice with a node.
 pub fn notify_node(w: Work, out: &mut [u8], kind: u8, p: PeerId, n: PeerInfo) -> Work
-    requires written_in_bounds { w.written ≤ length out.old }
-    requires valid_data { ValidData n.data }
+    requires { w.written ≤ length out.old }
     ensures { Emits (emit (node_notice kind p (node_in n))) w result out }
 {
-    let f = Fields {
-        kind: kind,
-        message: 0,
-        flags: 0,
-        peer: p,
-        second: 0,
-        ttl: 0,
-        number: 0,
-    };
-    emit_one(w, out, f, n)
+    emit_one(w, out, plain(kind, p), n)
 }
 
 // `io.send`: a message without nodes.
@@ -220,13 +210,9 @@ pub fn send(w: Work, out: &mut [u8], m: u8, to: PeerId, flags: u8) -> Work
     ensures { Emits (emit (message m to flags 0 0 [])) w result out }
 {
     let f = Fields {
-        kind: Kind::MESSAGE,
         message: m,
-        flags: flags,
-        peer: to,
-        second: 0,
-        ttl: 0,
-        number: 0,
+        flags,
+        ..plain(Kind::MESSAGE, to)
     };
     emit_bare(w, out, f)
 }
@@ -241,18 +227,14 @@ pub fn send_node(
     ttl: u16,
     n: PeerInfo,
 ) -> Work
-    requires written_in_bounds { w.written ≤ length out.old }
-    requires valid_data { ValidData n.data }
+    requires { w.written ≤ length out.old }
     ensures { Emits (emit (message m to flags 0 ttl (node_in n ∷ []))) w result out }
 {
     let f = Fields {
-        kind: Kind::MESSAGE,
         message: m,
-        flags: flags,
-        peer: to,
-        second: 0,
-        ttl: ttl,
-        number: 0,
+        flags,
+        ttl,
+        ..plain(Kind::MESSAGE, to)
     };
     emit_one(w, out, f, n)
 }
@@ -265,20 +247,16 @@ pub fn send_nodes(
     to: PeerId,
     origin: PeerId,
     ttl: u16,
-    ns: Nodes,
+    ns: &Nodes,
 ) -> Work
-    requires written_in_bounds { w.written ≤ length out.old }
-    requires valid_nodes { ValidNodes ns }
-    ensures { Emits (emit (message m to 0 origin ttl (nodes_in ns))) w result out }
+    requires { w.written ≤ length out.old }
+    ensures { Emits (emit (message m to 0 origin ttl (nodes_in ns.now))) w result out }
 {
     let f = Fields {
-        kind: Kind::MESSAGE,
         message: m,
-        flags: 0,
-        peer: to,
         second: origin,
-        ttl: ttl,
-        number: 0,
+        ttl,
+        ..plain(Kind::MESSAGE, to)
     };
     emit_nodes(w, out, f, ns)
 }

@@ -1,4 +1,4 @@
--- The zeroes and the order are looked at first, and then the entries. The measure is how many entries are left.
+-- The zeroes and the order are looked at first, and then the entries.
 use Rattle.base_columns.proofs.Testing.{words_no, rows_start, rows_next, rows_all}
 use Rattle.base_columns.proofs.data_valid.Goals as goal
 

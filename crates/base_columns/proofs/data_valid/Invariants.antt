@@ -1,10 +1,6 @@
--- The zeroes and the order are looked at first, and then the entries. The measure is how many entries are left.
-use Prim.Native.Nat.{◌-◌}
+-- The zeroes and the order are looked at first, and then the entries.
 use Rattle.base_columns.proofs.Testing.{Rows}
 use Rattle.base_columns.proofs.data_valid.Given as goal
 
 abbrev pub invariant-loop-i : goal.invariant-loop-i
 invariant-loop-i l = Rows l.cap l.m l.half l.high l.n l.ok l.i
-
-abbrev pub decreases-loop-i : goal.decreases-loop-i
-decreases-loop-i l = l.n - l.i

@@ -7,6 +7,6 @@ pub returns-then-i-n : goal.returns-then-i-n
 unfolding part
 returns-then-i-n c = search number_found
 
-pub returns : goal.returns
+pub returns-else-i-n : goal.returns-else-i-n
 unfolding part
-returns c = search number_none
+returns-else-i-n c = search number_none

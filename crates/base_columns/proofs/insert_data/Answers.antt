@@ -1,32 +1,9 @@
 -- By cases: a key that is there has its row replaced; a new one enters all four columns at its rank, and the count grows.
-use Rattle.base_peer.specs.Held.{ValidData}
-use mathlib.Core.Path.{◌≡◌}
-use mathlib.Core.Bool.{true, ◌||◌}
-use lib.Dec.{ltb}
-use lib.ListN.{length}
-use Rattle.base_lists.specs.Maps.{has}
 use Rattle.base_util.specs.Section.{part}
-use Rattle.base_columns.specs.Columns.{head_of, ValidDataWords, data_map_at}
+use Rattle.base_columns.specs.Columns.{head_of}
 use Rattle.base_columns.proofs.Data.{data_inside, data_size, data_keyed, data_lens, store_2, store_3, data_room, tail_size, tail_lows, tail_highs, data_long, data_replaced, data_inserted}
 use borrow.Author.Rules.{rules}
 use Rattle.base_columns.proofs.insert_data.Goals as goal
-
--- What insert_data was given.
-valid_words : (c : goal.After-in_two-arg-2-1) → ValidDataWords c.args.cap c.args.m.now
-valid_words c = c.requires.valid_data_words
-
-room : (c : goal.After-in_two-arg-2-1) → (has c.args.p (data_map_at c.args.cap c.args.m.now) || ltb (length (data_map_at c.args.cap c.args.m.now)) c.args.cap) ≡ true
-room c = c.requires.cap_value
-
--- What insert_data was given.
-valid_words_2 : (c : goal.After-slice_known-4-1) → ValidDataWords c.args.cap c.args.m.now
-valid_words_2 c = c.requires.valid_data_words
-
-room_2 : (c : goal.After-slice_known-4-1) → (has c.args.p (data_map_at c.args.cap c.args.m.now) || ltb (length (data_map_at c.args.cap c.args.m.now)) c.args.cap) ≡ true
-room_2 c = c.requires.cap_value
-
-valid_data : (c : goal.After-slice_known-4-1) → ValidData c.args.d
-valid_data c = c.requires.valid_data
 
 pub bounds-m-half : goal.bounds-m-half
 unfolding part head_of
@@ -70,15 +47,15 @@ in_two-requires-2-clause-s_len c = search tail_size
 
 pub in_two-requires-2-clause-filled : goal.in_two-requires-2-clause-filled
 unfolding part head_of
-in_two-requires-2-clause-filled c = tail_lows _ _ (valid_words c) _ _ _ c.in_two.ensures
+in_two-requires-2-clause-filled c = tail_lows _ _ c.requires.valid_data_words _ _ _ c.in_two.ensures
 
 pub in_two-requires-2-clause-filled_2 : goal.in_two-requires-2-clause-filled_2
 unfolding part head_of
-in_two-requires-2-clause-filled_2 c = tail_highs _ _ (valid_words c) _ _ _ c.in_two.ensures
+in_two-requires-2-clause-filled_2 c = tail_highs _ _ c.requires.valid_data_words _ _ _ c.in_two.ensures
 
 pub in_two-requires-2-clause-n_lt_cap : goal.in_two-requires-2-clause-n_lt_cap
 unfolding part head_of
-in_two-requires-2-clause-n_lt_cap c = data_room _ _ (valid_words c) _ _ c.find-i.ensures.0 c.if-i-n.false (room c)
+in_two-requires-2-clause-n_lt_cap c = data_room _ _ c.requires.valid_data_words _ _ c.find-i.ensures.0 c.if-i-n.false c.requires.cap_value
 
 pub in_two-requires-2-clause-i_le_n : goal.in_two-requires-2-clause-i_le_n
 unfolding part head_of
@@ -87,9 +64,9 @@ in_two-requires-2-clause-i_le_n c = c.rank_of-at.ensures.1
 pub shape_of-m : goal.shape_of-m
 unfolding part
 shape_of-m c =
-    data_long _ _ (valid_words_2 c) _ _ _ c.in_two.ensures _ _ _ _ c.in_two-2.ensures
+    data_long _ _ c.requires.valid_data_words _ _ _ c.in_two.ensures _ _ _ _ c.in_two-2.ensures
 
 pub returns : goal.returns
 unfolding part head_of
 returns c =
-    data_inserted _ _ (valid_words_2 c) _ _ c.find-i.ensures.0 _ _ _ (valid_data c) c.word_at-low.ensures.0 c.word_at-high.ensures.0 _ _ _ c.if-i-n.false (room_2 c) c.rank_of-at.ensures.0 c.in_two.ensures c.in_two-2.ensures
+    data_inserted _ _ c.requires.valid_data_words _ _ c.find-i.ensures.0 _ _ _ c.word_at-low.ensures.0 c.word_at-high.ensures.0 _ _ _ c.if-i-n.false c.requires.cap_value c.rank_of-at.ensures.0 c.in_two.ensures c.in_two-2.ensures

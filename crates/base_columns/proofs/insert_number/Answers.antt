@@ -1,13 +1,8 @@
 -- By cases: a key that is there has its number replaced; a new one enters both columns at its rank, and the count grows.
-use Rattle.base_columns.specs.Columns.{ValidNumbers}
 use Rattle.base_util.specs.Section.{part}
 use Rattle.base_columns.proofs.Numbers.{number_inside, number_column, number_fits, number_room, numbers_long, second_filled, second_fits, number_replaced, number_inserted}
 use borrow.Author.Rules.{rules}
 use Rattle.base_columns.proofs.insert_number.Goals as goal
-
--- What insert_number was given.
-valid_words : (c : goal.After-slice_known-4-1) → ValidNumbers c.args.cap c.args.m.now
-valid_words c = c.requires.valid_numbers
 
 pub returns-then-i-n : goal.returns-then-i-n
 returns-then-i-n c = search number_replaced
@@ -43,7 +38,7 @@ put_in-requires-2-clause-i_le_n c = search rules
 pub shape_of-m : goal.shape_of-m
 unfolding part
 shape_of-m c =
-    numbers_long _ _ _ _ _ _ _ c.put_in.ensures c.put_in-2.ensures (valid_words c)
+    numbers_long _ _ _ _ _ _ _ c.put_in.ensures c.put_in-2.ensures c.requires.valid_numbers
 
 pub returns : goal.returns
 unfolding part

@@ -1,13 +1,8 @@
 -- By cases: without the key nothing changes; otherwise its place leaves both columns, and the count falls.
-use Rattle.base_columns.specs.Columns.{ValidNumbers}
 use Rattle.base_util.specs.Section.{part}
 use Rattle.base_columns.proofs.Numbers.{number_inside, number_column, numbers_long, second_filled, cut_kept, removed}
 use borrow.Author.Rules.{rules}
 use Rattle.base_columns.proofs.remove_number.Goals as goal
-
--- What remove_number was given.
-valid_words : (c : goal.After-slice_known-4-1) → ValidNumbers c.args.cap c.args.m.now
-valid_words c = c.requires
 
 pub returns-then-i-n : goal.returns-then-i-n
 returns-then-i-n c = search cut_kept
@@ -35,7 +30,7 @@ take_out-requires-2-clause-i_lt_n c = search rules
 pub shape_of-m : goal.shape_of-m
 unfolding part
 shape_of-m c =
-    numbers_long _ _ _ _ _ _ _ c.take_out.ensures c.take_out-2.ensures (valid_words c)
+    numbers_long _ _ _ _ _ _ _ c.take_out.ensures c.take_out-2.ensures c.requires
 
 pub returns : goal.returns
 unfolding part

@@ -1,5 +1,5 @@
--- What is to be retained stays the same, and those before i stay. The measure is how many are to come.
-use Rattle.base_columns.proofs.Kept.{retaining_start, retaining_next, retaining_cut, retaining_less, retaining_end}
+-- What is to be retained stays the same, and those from i on stay.
+use Rattle.base_columns.proofs.Kept.{retaining_start, retaining_valid, retaining_next, retaining_cut, retaining_end}
 use Rattle.base_columns.proofs.retain_data.Goals as goal
 
 pub loop-i-init : goal.loop-i-init
@@ -8,13 +8,11 @@ loop-i-init c = search retaining_start
 pub loop-i-preserved-then-contains : goal.loop-i-preserved-then-contains
 loop-i-preserved-then-contains c = search retaining_next
 
-pub loop-i-smaller : goal.loop-i-smaller
-loop-i-smaller c =
-    retaining_less _ _ _ _ _ _ _ c.loop-i.invariant c.loop-i-test.true _ _ _ c.contains.ensures c.if-contains.false c.remove_data.ensures c.count_data-n-else-contains.ensures.0
+pub remove_data-requires : goal.remove_data-requires
+remove_data-requires c = search retaining_valid
 
 pub loop-i-preserved : goal.loop-i-preserved
-loop-i-preserved c =
-    retaining_cut _ _ _ _ _ _ _ c.loop-i.invariant c.loop-i-test.true _ _ _ c.contains.ensures c.if-contains.false c.remove_data.ensures c.count_data-n-else-contains.ensures.0
+loop-i-preserved c = search retaining_cut
 
 pub returns : goal.returns
 returns c = search retaining_end

@@ -1,17 +1,9 @@
--- First the words of b from j on have their marks, then none of a's first i words is in b; the measures are j and what is left of a.
-use Prim.Native.Nat.{◌-◌}
-use lib.ListN.{length}
+-- First the words of b before the place have their marks, then none of a's words before the place is in b.
 use Rattle.base_scan.proofs.Hints.{Noting, Passing}
 use Rattle.base_scan.proofs.disjoint.Given as goal
 
-abbrev pub invariant-loop-j : goal.invariant-loop-j
-invariant-loop-j l = Noting l.b l.seen l.j
+abbrev pub invariant-loop-y : goal.invariant-loop-y
+invariant-loop-y l = Noting l.b l.seen l.y-index
 
-abbrev pub decreases-loop-j : goal.decreases-loop-j
-decreases-loop-j l = l.j
-
-abbrev pub invariant-loop-i : goal.invariant-loop-i
-invariant-loop-i l = Passing l.a l.b l.seen l.i
-
-abbrev pub decreases-loop-i : goal.decreases-loop-i
-decreases-loop-i l = length l.a - l.i
+abbrev pub invariant-loop-x : goal.invariant-loop-x
+invariant-loop-x l = Passing l.a l.b l.seen l.x-index

@@ -1,15 +1,6 @@
--- The places before n + i hold what is wanted. The measure is how many are to come.
-use Rattle.base_util.proofs.Copies.{adding_start, adding_next, adding_long, adding_end}
+-- The items of the second set stand after those of the first, and the rest is as it was.
+use Rattle.base_util.proofs.Copies.{appended}
 use Rattle.base_util.proofs.append.Goals as goal
 
-pub loop-i-init : goal.loop-i-init
-loop-i-init c = search adding_start
-
-pub loop-i-preserved : goal.loop-i-preserved
-loop-i-preserved c = search adding_next
-
-pub shape_of-s : goal.shape_of-s
-shape_of-s c = adding_long _ _ _ _ _ _ c.loop-i.invariant _
-
 pub returns : goal.returns
-returns c = search adding_end
+returns c = appended _ _ _ _ c.requires.valid_set c.requires.valid_set_2 c.requires.more_len_bound _ c.copy_from_slice.ensures.after

@@ -1,13 +1,9 @@
--- The places before i hold what is wanted, and the others what they held. The measure is what is left.
-use Rattle.base_util.proofs.Stores.{clearing_start, clearing_next, clearing_end}
-use borrow.Author.Rules.{rules}
+-- From k on there are the zeroes that were filled in; a k past the end leaves all as it is.
+use Rattle.base_util.proofs.Stores.{cleared_past, none_past}
 use Rattle.base_util.proofs.clear_from.Goals as goal
 
-pub loop-i-init : goal.loop-i-init
-loop-i-init c = (search rules, search clearing_start)
+pub returns-then-k-s : goal.returns-then-k-s
+returns-then-k-s c = cleared_past _ _ _ c.if-k-s.true (c.fill.ensures.after (λ y e. e))
 
-pub loop-i-preserved : goal.loop-i-preserved
-loop-i-preserved c = (search rules, search clearing_next)
-
-pub returns : goal.returns
-returns c = search clearing_end
+pub returns-else-k-s : goal.returns-else-k-s
+returns-else-k-s c = search none_past

@@ -1,19 +1,7 @@
--- The places before i hold what is wanted. The measure is what is left.
-use Rattle.base_util.proofs.Copies.{copying_start, copying_next, copying_past, copying_long, copying_end}
-use borrow.Author.Rules.{rules}
+-- The column, zeroes up to the count's place, and the count.
+use Rattle.base_util.proofs.Copies.{column_copied}
 use Rattle.base_util.proofs.copy_column.Goals as goal
 
-pub loop-i-init : goal.loop-i-init
-loop-i-init c = search copying_start
-
-pub loop-i-preserved : goal.loop-i-preserved
-loop-i-preserved c = search copying_next
-
-pub loop-i-2-preserved : goal.loop-i-2-preserved
-loop-i-2-preserved c = (search rules, search copying_past)
-
-pub shape_of-t : goal.shape_of-t
-shape_of-t c = copying_long _ _ _ _ _ c.loop-i-2.invariant.1 _ _ c.requires.t_len
-
 pub returns : goal.returns
-returns c = search copying_end
+returns c =
+    column_copied _ _ _ c.requires.filled c.requires.s_len_bound c.requires.t_len _ _ c.copy_from_slice.ensures.after (c.fill.ensures.after (λ y e. e))

@@ -1,11 +1,9 @@
--- The measure is how many draws are left.
-use Prim.Native.Nat.{◌-◌}
+-- The draws before k are passed over, and k is within them if any are left.
+use Prim.Native.Nat.{◌≤◌}
 use lib.ListN.{length}
+use Rattle.std.specs.Prelude.{max}
 use Rattle.base_util.proofs.Picks.{Reading}
 use Rattle.base_util.proofs.pick_index.Given as goal
 
 abbrev pub invariant-loop-k : goal.invariant-loop-k
-invariant-loop-k l = Reading l.n l.at l.draws l.end l.k
-
-abbrev pub decreases-loop-k : goal.decreases-loop-k
-decreases-loop-k l = length l.draws - l.k
+invariant-loop-k l = (l.k ≤ max l.at (length l.draws)) × Reading l.n l.at l.draws l.end l.k

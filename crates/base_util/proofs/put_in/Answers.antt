@@ -1,12 +1,8 @@
--- The places before k hold what is wanted, the others what they held, and the item that comes next is carried. The measure is what is left.
-use Rattle.base_util.proofs.Columns.{in_start, in_next, in_end}
+-- The items past the place were moved by one, and the place that is left is stored.
+use Rattle.base_util.proofs.Columns.{put_in}
 use Rattle.base_util.proofs.put_in.Goals as goal
 
-pub loop-k-init : goal.loop-k-init
-loop-k-init c = search in_start
-
-pub loop-k-preserved : goal.loop-k-preserved
-loop-k-preserved c = search in_next
-
 pub returns : goal.returns
-returns c = search in_end
+returns c =
+    let m = c.copy_within.ensures in
+    put_in _ _ _ _ c.requires.filled m.len _ c.requires.n_in_bounds c.requires.i_le_n m.by_index.0 m.by_index.1 m.by_index.2

@@ -1,34 +1,18 @@
--- The answer is the place among the items from i on. The measure is what is left.
-use Prim.Native.Nat.{ℕ, ◌+◌, ◌≤◌, ◌<◌}
+-- What `position` answers, or n where it answers none, is the place that the definition has.
 use mathlib.Core.Path.{◌≡◌}
-use mathlib.Core.List.{List}
-use lib.ListN.{length, take, get_or}
-use borrow.Author.Tests.{lt-ltb, le-ltb}
-use Rattle.base_lists.specs.Lists.{rank}
-use Rattle.base_lists.proofs.Rest.{Rest}
-use Rattle.base_lists.proofs.Search.{Place, first_rank, first_here, first_next, first_end}
-use Rattle.base_util.proofs.Columns.{search_start}
-use borrow.Author.Rules.{rules}
+use lib.ListN.{take}
+use lib.Seq.{length-take-le}
+use lib.Dec.{ltb}
+use Rattle.std.proofs.Common.{rules, tests}
+use Rattle.std.proofs.lemmas.Iterator.{YieldsList-from_slice}
+use Rattle.std.proofs.lemmas.Iterator.Search.{position_from_yields_List}
+use Rattle.std.specs.List.{position}
+use Rattle.base_lists.proofs.Search.{first_rank, first_position}
 use Rattle.base_util.proofs.rank_of.Goals as goal
 
-module _ (x : ℕ) (s : List ℕ) (n i : ℕ) (r : Rest (Place (rank x)) (length s) s n (rank x (take n s)) i i) where
-  here : i < n → x < get_or s i 0 → i ≡ rank x (take n s)
-  here h e = first_here 0 (first_rank x) r h (lt-ltb _ _ e)
-
-  next : i < n → get_or s i 0 ≤ x → Rest (Place (rank x)) (length s) s n (rank x (take n s)) (i + 1) (i + 1)
-  next h e = first_next 0 (first_rank x) r h (le-ltb _ _ e)
-
-  end : n ≤ i → n ≡ rank x (take n s)
-  end h = first_end 0 (first_rank x) r h
-
-pub loop-i-init : goal.loop-i-init
-loop-i-init c = search_start (first_rank _) _ _ (search rules)
-
-pub returns-then-x-s : goal.returns-then-x-s
-returns-then-x-s c = (search here, search rules)
-
-pub loop-i-preserved : goal.loop-i-preserved
-loop-i-preserved c = search next
-
 pub returns : goal.returns
-returns c = (search end, search rules)
+returns c =
+    let l = take c.args.n c.args.s.now in
+    let e : c.position.result ≡ position (ltb c.args.x) l =
+    position_from_yields_List (ltb c.args.x) _ _ c.position.result c.position.ensures.ran (YieldsList-from_slice l cc) (λ y b q k. search (rules, tests)) in
+    first_position (first_rank c.args.x) _ _ _ _ e c.unwrap_or.ensures (length-take-le c.args.n c.args.s.now c.requires)

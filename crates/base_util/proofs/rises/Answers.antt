@@ -1,4 +1,4 @@
--- While i climbs, `ok` says whether the first i items rise; the measure is how many items are left.
+-- While i climbs, `ok` says whether the first i items rise.
 use Prim.Native.Nat.{ℕ, ◌+◌, ◌-◌, ◌≤◌, ◌<◌}
 use mathlib.Core.Path.{◌≡◌, subst}
 use mathlib.Core.Bool.{Bool, ◌&&◌}

@@ -1,9 +1,6 @@
--- What is wanted is the shuffle of what is left. The measure is how many places are left.
-use Rattle.base_util.proofs.Stores.{Turning}
+-- What is wanted is the shuffle of what is left.
+use Rattle.base_util.proofs.Stores.{Shuffling}
 use Rattle.base_util.proofs.shuffle.Given as goal
 
 abbrev pub invariant-loop-i : goal.invariant-loop-i
-invariant-loop-i l = Turning l.draws l.at l.cap l.initial.s l.s l.i l.k
-
-abbrev pub decreases-loop-i : goal.decreases-loop-i
-decreases-loop-i l = l.i
+invariant-loop-i l = Shuffling l.draws l.at l.cap l.initial.s l.s l.i l.k

@@ -1,12 +1,8 @@
--- The places before k hold what is wanted, and the others what they held. The measure is what is left.
-use Rattle.base_util.proofs.Columns.{out_start, out_next, out_end}
+-- The items past the place were moved by one, and the place that is left is stored.
+use Rattle.base_util.proofs.Columns.{taken_out}
 use Rattle.base_util.proofs.take_out.Goals as goal
 
-pub loop-k-init : goal.loop-k-init
-loop-k-init c = search out_start
-
-pub loop-k-preserved : goal.loop-k-preserved
-loop-k-preserved c = search out_next
-
 pub returns : goal.returns
-returns c = search out_end
+returns c =
+    let m = c.copy_within.ensures in
+    taken_out _ _ _ _ c.requires.filled m.len c.requires.i_lt_n m.by_index.0 m.by_index.1 m.by_index.2

@@ -1,4 +1,4 @@
--- The first m places hold what is kept of those passed. The measure is how many are to come.
+-- The first m places hold what is kept of those passed.
 use Rattle.base_util.proofs.Stores.{packing_start, packing_passed, packing_kept, packing_end, packing_count}
 use borrow.Author.Rules.{rules}
 use Rattle.base_util.proofs.without_all_in.Goals as goal

@@ -1,37 +1,19 @@
--- The bits so far, with the words still to come, say whether all are zero; the measure is how many words are left.
-use Prim.Native.Nat.{ℕ, ◌+◌, ◌≤◌, ◌<◌}
-use mathlib.Core.Path.{◌≡◌, subst}
-use mathlib.Core.Bool.{Bool}
-use mathlib.Core.List.{List}
-use native.Mathlib.Omega.{arith}
-use lib.ListN.{length, take, drop, get_or}
-use lib.Seq.{get_or-take, length-take-le}
+-- The bits of all words together are none where each word is zero.
+use Prim.Native.Nat.{◌-◌}
+use mathlib.Core.Path.{◌≡◌, ap, ◌∙◌}
+use lib.ListN.{take, drop}
 use lib.Bits.{bit_or}
 use lib.Dec.{eqb}
+use borrow.Author.Rules.{rules}
+use Rattle.std.specs.Prelude.{fold}
 use Rattle.base_lists.specs.Tests.{every}
 use Rattle.base_scan.specs.Words.{unused}
-use Rattle.base_scan.proofs.Loops.{Left, Bits, bits_start, bits_next, bits_end}
-use borrow.Author.Rules.{rules}
+use Rattle.base_scan.proofs.Loops.{all_bits}
+use Rattle.base_util.proofs.Parts.{slice_lent}
 use Rattle.base_util.proofs.zero_from.Goals as goal
 
-module _ (s : List ℕ) (end : ℕ) (l : end ≤ length s) where
-  start : (from : ℕ) → from ≤ end → Left Bits (take end s) (every unused (drop from (take end s))) 0 from
-  start from h = bits_start (take end s) from (omega (arith, length-take-le end s l))
-
-  module _ (whole : Bool) (bits i : ℕ) (v : Left Bits (take end s) whole bits i) where
-    next : i < end → Left Bits (take end s) whole (bit_or bits (get_or s i 0)) (i + 1)
-    next h =
-        subst (λ (x : ℕ). Left Bits (take end s) whole (bit_or bits x) (i + 1)) (get_or-take end s i 0 h)
-        (bits_next (take end s) whole bits i v (omega (arith, length-take-le end s l)))
-
-    done : end ≤ i → eqb bits 0 ≡ whole
-    done h = bits_end (take end s) whole bits i v (omega (arith, length-take-le end s l))
-
-pub loop-i-init : goal.loop-i-init
-loop-i-init c = (search rules, search start)
-
-pub loop-i-preserved : goal.loop-i-preserved
-loop-i-preserved c = (search rules, search next)
-
 pub returns : goal.returns
-returns c = search done
+returns c =
+    let l = slice_lent c.args.from c.args.end c.args.s.now c.requires.from_le_end c.requires.end_in_bounds in
+    let f : c.fold.result ≡ fold bit_or 0 (take (c.args.end - c.args.from) (drop c.args.from c.args.s.now)) = search rules in
+    ap (λ (b : _). eqb b 0) f ∙ all_bits 0 _ ∙ ap (every unused) l

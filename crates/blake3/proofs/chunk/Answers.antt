@@ -1,32 +1,26 @@
--- `chunk` meets its contract: a turn takes one block off those to come.
-use Prim.Native.Nat.{ℕ, ◌+◌, ◌-◌, ◌<◌}
-use mathlib.Core.Path.{◌≡◌, refl, sym, ◌∙◌}
+-- `chunk` meets its contract: a turn takes one block off those to come. The measure is the bytes that are left.
+use Prim.Native.Nat.{ℕ, ◌<◌}
+use mathlib.Core.Path.{◌≡◌, refl, sym, ap, ◌∙◌}
 use mathlib.Core.List.{List}
 use native.Mathlib.Omega.{arith}
-use lib.ListN.{length, drop, length-drop}
-use lib.Seq.{drop-drop}
+use lib.ListN.{length, take, drop}
 use Rattle.blake3.specs.Blake3.{iv, chunk_start, block_length, compress, block_words, chunk}
-use Rattle.blake3.proofs.Laws.{chunk_more}
+use Rattle.blake3.proofs.Laws.{block_front, chunk_more}
 use Rattle.blake3.proofs.chunk.Invariants.{Inv}
 use Rattle.blake3.proofs.chunk.Goals as goal
 
-start_of : (body : List ℕ) → Inv body (length body) iv chunk_start 0
-start_of body = record { whole = refl; low = omega arith; flag = omega arith; same = refl }
+start_of : (body : List ℕ) → Inv body iv chunk_start body
+start_of body = record { flag = omega arith; same = refl }
 
-next : (body : List ℕ) (n : ℕ) (cv : List ℕ) (start at : ℕ) (r : List ℕ) → Inv body n cv start at → block_length < n - at
-    → r ≡ compress cv (block_words (drop at body)) block_length start → Inv body n r 0 (at + block_length)
-next body n cv start at r inv h e = record {
-  whole = inv.whole;
-  low = omega arith;
-  flag = omega arith;
-  same =
-      inv.same ∙ chunk_more cv start (drop at body) (omega (arith, length-drop at body, inv.whole))
-      ∙ (λ j. chunk (sym e j) 0 (drop-drop block_length at body j));
-}
+next : (body cv : List ℕ) (start : ℕ) (rest block after r : List ℕ) → Inv body cv start rest → block_length < length rest
+    → block ≡ take block_length rest → after ≡ drop block_length rest → r ≡ compress cv (block_words block) block_length start → Inv body r 0 after
+next body cv start rest block after r inv h eb ea e =
+    let same : r ≡ compress cv (block_words rest) block_length start = e ∙ ap (λ (ws : List ℕ). compress cv ws block_length start) (ap block_words eb ∙ block_front rest) in
+    record { flag = omega arith; same = inv.same ∙ chunk_more cv start rest h ∙ (λ j. chunk (sym same j) 0 (sym ea j)) }
 
-pub loop-at-init : goal.loop-at-init
+pub loop-rest-init : goal.loop-rest-init
 unfolding iv
-loop-at-init c = start_of _
+loop-rest-init c = start_of _
 
-pub loop-at-preserved : goal.loop-at-preserved
-loop-at-preserved c = search next
+pub loop-rest-preserved : goal.loop-rest-preserved
+loop-rest-preserved c = search next

@@ -1,19 +1,17 @@
--- `chunk` meets its contract: a turn takes one block off those to come.
-use Prim.Native.Nat.{ℕ, ◌-◌, ◌≤◌}
+-- `chunk` meets its contract: a turn takes one block off those to come. The measure is the bytes that are left.
+use Prim.Native.Nat.{ℕ, ◌≤◌}
 use mathlib.Core.Path.{◌≡◌}
 use mathlib.Core.List.{List}
-use lib.ListN.{length, drop}
+use lib.ListN.{length}
 use Rattle.blake3.specs.Blake3.{iv, chunk_start, chunk}
 use Rattle.blake3.proofs.chunk.Given as goal
 
-pub record Inv (body : List ℕ) (n : ℕ) (cv : List ℕ) (start at : ℕ) : Type 0 where
-  pub whole : n ≡ length body
-  pub low : at ≤ n
+pub record Inv (body cv : List ℕ) (start : ℕ) (rest : List ℕ) : Type 0 where
   pub flag : start ≤ chunk_start
-  pub same : chunk iv chunk_start body ≡ chunk cv start (drop at body)
+  pub same : chunk iv chunk_start body ≡ chunk cv start rest
 
-abbrev pub invariant-loop-at : goal.invariant-loop-at
-invariant-loop-at l = Inv l.body l.n l.cv l.start l.at
+abbrev pub invariant-loop-rest : goal.invariant-loop-rest
+invariant-loop-rest l = Inv l.body l.cv l.start l.rest
 
-abbrev pub decreases-loop-at : goal.decreases-loop-at
-decreases-loop-at l = l.n - l.at
+abbrev pub decreases-loop-rest : goal.decreases-loop-rest
+decreases-loop-rest l = length l.rest

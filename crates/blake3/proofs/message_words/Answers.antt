@@ -5,5 +5,5 @@ use Rattle.blake3.proofs.message_words.Goals as goal
 
 pub returns : goal.returns
 returns c =
-    (λ i. from_rows (c.quad_at-p.ensures i) (c.quad_at-q.ensures i) (c.quad_at-r.ensures i) (c.quad_at-t.ensures i))
-    ∙ by_fours _ _
+    (λ i. from_rows (c.quad_at-p.ensures i) (c.quad_at-q.ensures i) (c.quad_at-r.ensures i) (c.quad_at-s.ensures i))
+    ∙ by_fours _ 0

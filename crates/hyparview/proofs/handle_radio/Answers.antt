@@ -4,7 +4,7 @@ use borrow.Author.Rules.{rules}
 use Rattle.hyparview.proofs.handle_radio.Goals as goal
 
 pub returns-then-is_barred : goal.returns-then-is_barred
-returns-then-is_barred c = search sixteen
+returns-then-is_barred c = sixteen _ _ _ _ _ _ c.is_barred.ensures _ c.into.ensures c.if-is_barred.true c.refuse.ensures
 
 pub returns-then-draws-lt-RADIO_DRAWS : goal.returns-then-draws-lt-RADIO_DRAWS
 returns-then-draws-lt-RADIO_DRAWS c = search few_draws

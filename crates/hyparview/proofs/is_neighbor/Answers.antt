@@ -1,15 +1,12 @@
 -- By cases: words that keep the rules are packed, so `in_active` answers; by any others nobody is a neighbor.
-use Rattle.hyparview.proofs.Asked.{ok_packed, ok_long, met, met_not}
+use Rattle.hyparview.proofs.Asked.{ok_packed, met, met_not}
 use Rattle.hyparview.proofs.is_neighbor.Goals as goal
 
-pub in_active-requires-clause-st_len : goal.in_active-requires-clause-st_len
-in_active-requires-clause-st_len c = search ok_long
+pub returns-in_default : goal.returns-in_default
+returns-in_default c = met_not _ c.in_default.ensures _
 
-pub in_active-requires-clause-packed_state : goal.in_active-requires-clause-packed_state
-in_active-requires-clause-packed_state c = search ok_packed
-
-pub returns-then-is_ok : goal.returns-then-is_ok
-returns-then-is_ok c = search met
+pub in_active-requires : goal.in_active-requires
+in_active-requires c = record { packed_state = ok_packed _ _ c.in-Some.ensures }
 
 pub returns : goal.returns
-returns c = search met_not
+returns c = met _ _ c.in-Some.ensures _ _ c.in_active.ensures

@@ -2,11 +2,11 @@
 use Rattle.hyparview_state.proofs.Memory.{limit_automatic, limit_requests, limit_recovery}
 use Rattle.hyparview_state.proofs.limit_of.Goals as goal
 
-pub returns-then-st-eq-AUTOMATIC : goal.returns-then-st-eq-AUTOMATIC
-returns-then-st-eq-AUTOMATIC c = search limit_automatic
+pub returns-in-0 : goal.returns-in-0
+returns-in-0 c = search limit_automatic
 
-pub returns-then-st-eq-REQUESTS_LEFT : goal.returns-then-st-eq-REQUESTS_LEFT
-returns-then-st-eq-REQUESTS_LEFT c = search limit_requests
+pub returns-in-1 : goal.returns-in-1
+returns-in-1 c = search limit_requests
 
-pub returns : goal.returns
-returns c = search limit_recovery
+pub returns-in_default : goal.returns-in_default
+returns-in_default c = search limit_recovery

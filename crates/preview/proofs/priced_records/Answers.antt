@@ -1,21 +1,23 @@
--- What came before is counted, and the records of what is left of the output are to come. The measure is what is left.
-use native.Mathlib.Omega.{arith}
+-- What came before is counted, and the records that are left are to come.
 use borrow.Author.Rules.{rules}
-use lib.ListN.{length}
-use Rattle.preview.proofs.Laws.{Counting, counting_start, counting_few, counting_none, counting_last, counting_next}
+use Rattle.record.proofs.Walk.{next_record, next_header, no_record_left}
+use Rattle.preview.proofs.Laws.{counting_start, counting_next, counting_end}
 use Rattle.preview.proofs.priced_records.Goals as goal
 
-pub loop-rest-init : goal.loop-rest-init
-loop-rest-init c = search counting_start
+pub loop-h-init : goal.loop-h-init
+loop-h-init c = record {
+  can = tt;
+  finite = tt;
+  counting = counting_start _ _ _ (λ i. (c.type_inv.out i).fits) c.default-count.ensures.0 c.default-count.ensures.1 (search rules);
+}
 
-pub returns-then-n-eq0 : goal.returns-then-n-eq0
-returns-then-n-eq0 c = search counting_none
-
-pub returns-then-rest-n : goal.returns-then-rest-n
-returns-then-rest-n c = search counting_last
-
-pub loop-rest-preserved : goal.loop-rest-preserved
-loop-rest-preserved c = search counting_next
+pub loop-h-preserved : goal.loop-h-preserved
+loop-h-preserved c = record {
+  can = tt;
+  finite = tt;
+  counting = rw c.from.ensures
+      (counting_next _ _ _ c.loop-h.invariant.counting _ _ _ (next_record _ _ _ _ c.in-Some.ensures.steps) (next_header _ _ _ _ c.in-Some.ensures.steps));
+}
 
 pub returns : goal.returns
-returns c = search counting_few
+returns c = counting_end _ _ _ c.loop-h.invariant.counting (no_record_left _ c.in-None.ensures.steps.0)

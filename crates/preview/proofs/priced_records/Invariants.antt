@@ -1,12 +1,10 @@
--- What came before is counted, and the records of what is left of the output are to come. The measure is what is left.
-use native.Mathlib.Omega.{arith}
-use borrow.Author.Rules.{rules}
-use lib.ListN.{length}
-use Rattle.preview.proofs.Laws.{Counting, counting_start, counting_few, counting_none, counting_last, counting_next}
+-- What came before is counted, and the records that are left are to come.
+use Rattle.preview.proofs.Laws.{Counting}
 use Rattle.preview.proofs.priced_records.Given as goal
 
-abbrev pub invariant-loop-rest : goal.invariant-loop-rest
-invariant-loop-rest l = Counting l.out l.messages l.bytes l.rest
-
-abbrev pub decreases-loop-rest : goal.decreases-loop-rest
-decreases-loop-rest l = length l.rest
+abbrev pub invariant-loop-h : goal.invariant-loop-h
+invariant-loop-h l = record {
+  can : (goal.iterator-loop-h).can_next l.h-iterator;
+  finite : (goal.iterator-loop-h).is_finite l.h-iterator;
+  counting : Counting l.out l.count l.h-iterator.rest.now;
+}

@@ -12,4 +12,4 @@ unfolding entry_at_by
 there w b i at e p q = q ∙ ap (entry_from w b) p
 
 pub returns : goal.returns
-returns c = search there
+returns c = there _ _ _ _ _ c.place.ensures.0 c.read_entry.ensures

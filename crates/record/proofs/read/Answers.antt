@@ -18,5 +18,5 @@ read_header-requires c = search long
 pub returns-then-well_formed : goal.returns-then-well_formed
 returns-then-well_formed c = search answer_record
 
-pub returns : goal.returns
-returns c = search answer_malformed
+pub returns-else-well_formed : goal.returns-else-well_formed
+returns-else-well_formed c = search answer_malformed

@@ -1,7 +1,7 @@
--- What remains: the entries from i on, whose data stand from `at` on. The measure is their number.
+-- What remains: the entries from i on, whose data stand from `at` on.
 use Prim.Native.Nat.{ℕ, suc, ◌+◌, ◌-◌, ◌≤◌, ◌<◌}
 use mathlib.Core.Path.{◌≡◌, refl, sym, ap, ◌∙◌}
-use mathlib.Core.Bool.{Bool, true, false, not, ◌&&◌, ◌||◌}
+use mathlib.Core.Bool.{Bool, true, false, ◌&&◌}
 use mathlib.Core.List.{List}
 use native.Mathlib.Nat.{mul-le-mul_left}
 use native.Mathlib.Numerals.{add-one}
@@ -10,13 +10,12 @@ use borrow.Author.Tests.{le-leb, lt-leb, leb-true, leb-false}
 use borrow.Author.Rules.{rules}
 use lib.ListN.{length}
 use lib.Dec.{eqb, leb}
-use Rattle.base_lists.specs.Lists.{choose}
 use Rattle.base_lists.proofs.Choice.{and_left, and_right}
 use Rattle.record.specs.Format.{header_length_by, node_length_by, place_by}
-use Rattle.record.specs.Read.{header_of_by, header_ok, is_message, is_data, entry_from, entry_at_by, entry_ok, entries_ok_by, well_formed_by}
+use Rattle.record.specs.Read.{header_of_by, header_ok, entry_from, entry_at_by, entry_ok, entries_ok_by, well_formed_by}
 use Rattle.record.specs.declared.Header.{Header}
 use Rattle.record.specs.declared.Entry.{Entry}
-use Rattle.record.proofs.Laws.{entries_short, entry_known}
+use Rattle.record.proofs.Laws.{entries_short}
 use Rattle.record.proofs.well_formed.Invariants.{Inv}
 use Rattle.record.proofs.well_formed.Goals as goal
 
@@ -32,7 +31,7 @@ unfolding well_formed_by
 short w b p e l = let h : length b < header_length_by w = omega (arith, first_place w p e) in rw (lt-leb _ _ h)
 
 -- where the last of three tests fails, what takes its place fails too
-instead : (r s t e : Bool) → (t ≡ false → e ≡ false) → (r && (s && t)) ≡ false → false ≡ (r && (s && e))
+instead : (r s t e : Bool) → (t ≡ false → e ≡ false) → (r && s && t) ≡ false → false ≡ (r && (s && e))
 instead false s t e k z = refl
 instead true false t e k z = refl
 instead true true t e k z = sym (k z)
@@ -42,85 +41,68 @@ module _ (w : ℕ) (b : List ℕ) (h : Header) (r : Bool) (at : ℕ) (l : header
   unfolding well_formed_by
   whole = rw (q, e, p, le-leb _ _ l)
 
-  unsound : (r && (eqb h.size (length b) && leb at (length b))) ≡ false → false ≡ well_formed_by w b
+  unsound : (r && eqb h.size (length b) && leb at (length b)) ≡ false → false ≡ well_formed_by w b
   unsound z = instead r (eqb h.size (length b)) (leb at (length b)) (entries_ok_by w h b 0 h.nodes at) (λ n. entries_short w h b 0 h.nodes at (leb-false _ _ n)) z ∙ sym whole
 
-  start : (d j m : Bool) → at ≤ 3092 → h.nodes ≤ 255 → d ≡ is_data h → j ≡ is_message 0 h → m ≡ is_message 4 h
-      → (r && (eqb h.size (length b) && leb at (length b))) ≡ true → Inv w b d (j || (m || d)) h.nodes at 0
-  start d j m s f x y z t =
-      let sized : (eqb h.size (length b) && leb at (length b)) ≡ true = and_right r (eqb h.size (length b) && leb at (length b)) t in
-      let fits : at ≤ length b = leb-true at (length b) (and_right (eqb h.size (length b)) (leb at (length b)) sized) in
+  start : at ≤ 3092 → h.nodes ≤ 255 → (r && eqb h.size (length b) && leb at (length b)) ≡ true → Inv w b h.nodes at 0
+  start s f t =
+      let fits : at ≤ length b = leb-true at (length b) (and_right (r && eqb h.size (length b)) (leb at (length b)) t) in
+      let first = and_left (r && eqb h.size (length b)) (leb at (length b)) t in
       record {
-        low = omega arith;
         few = f;
         room = omega (arith, e, fits);
         small = omega arith;
-        known = x ∙ ap is_data p;
-        unnamed = (λ i. y i || (z i || x i)) ∙ ap (λ (g : Header). is_message 0 g || (is_message 4 g || is_data g)) p;
         same = λ left k. let n : left ≡ h.nodes = omega arith in
-            whole ∙ rw (n, and_left r (eqb h.size (length b) && leb at (length b)) t, and_left (eqb h.size (length b)) (leb at (length b)) sized, p);
+            whole ∙ rw (n, and_left r (eqb h.size (length b)) first, and_right r (eqb h.size (length b)) first, p);
       }
 
-module _ (w : ℕ) (b : List ℕ) (d u : Bool) (n at i : ℕ) (v : Inv w b d u n at i) where
+module _ (w : ℕ) (b : List ℕ) (n at i : ℕ) (v : Inv w b n at i) where
   entry-fits : (p : ℕ) → p ≡ place_by w i → i < n → p + node_length_by w ≤ length b
   entry-fits p a l = omega (arith, a, v.room, mul-le-mul_left (node_length_by w) l)
 
-  module _ (p : ℕ) (e : Entry) (x : Bool) (a : p ≡ place_by w i) (q : e ≡ entry_from w b p)
-      (o : x ≡ choose (eqb e.present 0) (eqb e.offset 0 && eqb e.len 0) (eqb e.present 1 && (eqb e.offset at && leb e.len 16))) where
+  module _ (h : Header) (p : ℕ) (e : Entry) (x : Bool) (z : h ≡ header_of_by w b) (a : p ≡ place_by w i) (q : e ≡ entry_from w b p) (o : x ≡ entry_ok h e at) where
     there : e ≡ entry_at_by w b i
     unfolding entry_at_by
     there = q ∙ ap (entry_from w b) a
 
-    test : (x && ((not u || eqb e.id 0) && (not d || eqb e.present 1))) ≡ entry_ok (header_of_by w b) e at
-    test = entry_known _ e at x d u o v.known v.unnamed
+    test : entry_ok (header_of_by w b) (entry_at_by w b i) at ≡ x
+    test = sym (o ∙ rw (z, there) refl)
 
-    next : i < n → e.len ≤ 255 → (x && ((not u || eqb e.id 0) && (not d || eqb e.present 1))) ≡ true → Inv w b d u n (at + e.len) (i + 1)
+    next : i < n → e.len ≤ 255 → x ≡ true → Inv w b n (at + e.len) (i + 1)
     unfolding entries_ok_by
     next l s y = record {
-      low = omega arith;
       few = v.few;
       room = v.room;
       small = omega (arith, v.small);
-      known = v.known;
-      unnamed = v.unnamed;
-      same = λ left k. v.same (suc left) (omega arith) ∙ rw (← there, ← test, y, add-one i);
+      same = λ left k. v.same (suc left) (omega arith) ∙ rw (test, y, ← there, add-one i);
     }
 
-    bad : i < n → (x && ((not u || eqb e.id 0) && (not d || eqb e.present 1))) ≡ false → false ≡ well_formed_by w b
+    bad : i < n → x ≡ false → false ≡ well_formed_by w b
     unfolding entries_ok_by
-    bad l y = sym (v.same (suc (n - suc i)) (omega arith) ∙ rw (← there, ← test, y))
+    bad l y = sym (v.same (suc (n - suc i)) (omega arith) ∙ rw (test, y))
 
-  end : n ≤ i → eqb at (length b) ≡ well_formed_by w b
+  end : i ≡ n → eqb at (length b) ≡ well_formed_by w b
   unfolding entries_ok_by
-  end l = sym (v.same 0 (omega (arith, v.low)))
+  end l = sym (v.same 0 (omega (arith, l)))
 
 pub returns-then-b-place : goal.returns-then-b-place
 returns-then-b-place c = search short
 
-pub read_header_by-h-requires-clause-w_in_bounds : goal.read_header_by-h-requires-clause-w_in_bounds
-read_header_by-h-requires-clause-w_in_bounds c = search long
+pub returns-then-not-is_ok-h : goal.returns-then-not-is_ok-h
+returns-then-not-is_ok-h c =
+    unsound _ _ _ _ _ (long _ c.args.b.now _ c.place.ensures.0 c.if-b-place.false) c.read_header_by-h.ensures c.is_ok.ensures c.place-at.ensures.0 c.if-not-is_ok-h.true
 
 pub loop-i-init : goal.loop-i-init
 loop-i-init c =
-    start _ _ _ _ _ (long _ c.args.b.now _ c.place.ensures.0 c.if-b-place.false) c.read_header_by-h.ensures c.header_ok.ensures c.place-at.ensures.0 _ _ _ c.place-at.ensures.1 (search rules) c.is_data-known.ensures c.is_message.ensures c.is_message-then-header_ok-size.ensures c.if-header_ok-size.true
+    start _ _ _ _ _ (long _ c.args.b.now _ c.place.ensures.0 c.if-b-place.false) c.read_header_by-h.ensures c.is_ok.ensures c.place-at.ensures.0 c.place-at.ensures.1 (search rules) c.if-not-is_ok-h.false
 
-pub read_entry-e-requires-clause-w_in_bounds : goal.read_entry-e-requires-clause-w_in_bounds
-read_entry-e-requires-clause-w_in_bounds c = search entry-fits
-
-pub overflow_add-at : goal.overflow_add-at
-overflow_add-at c = search (rules, c.loop-i.invariant)
+pub returns-then-not-entry_ok : goal.returns-then-not-entry_ok
+returns-then-not-entry_ok c =
+    bad _ _ _ _ _ c.loop-i.invariant _ _ _ _ c.read_header_by-h.ensures c.place-in-loop-i.ensures.0 c.read_entry-e.ensures c.entry_ok.ensures c.loop-i-test.true c.if-not-entry_ok.true
 
 pub loop-i-preserved : goal.loop-i-preserved
 loop-i-preserved c =
-    next _ _ _ _ _ _ _ c.loop-i.invariant _ _ _ c.place-in-loop-i.ensures.0 c.read_entry-e.ensures c.select-data.ensures c.loop-i-test.true (search rules) c.if-data-id.true
-
-pub returns-else-data-id : goal.returns-else-data-id
-returns-else-data-id c =
-    bad _ _ _ _ _ _ _ c.loop-i.invariant _ _ _ c.place-in-loop-i.ensures.0 c.read_entry-e.ensures c.select-data.ensures c.loop-i-test.true c.if-data-id.false
-
-pub returns-then-header_ok-size : goal.returns-then-header_ok-size
-returns-then-header_ok-size c = search end
+    next _ _ _ _ _ c.loop-i.invariant _ _ _ _ c.read_header_by-h.ensures c.place-in-loop-i.ensures.0 c.read_entry-e.ensures c.entry_ok.ensures c.loop-i-test.true (search rules) c.if-not-entry_ok.false
 
 pub returns : goal.returns
-returns c =
-    unsound _ _ _ _ _ (long _ c.args.b.now _ c.place.ensures.0 c.if-b-place.false) c.read_header_by-h.ensures c.header_ok.ensures c.place-at.ensures.0 c.if-header_ok-size.false
+returns c = end _ _ _ _ _ c.loop-i.invariant (search rules)

@@ -1,12 +1,13 @@
--- What remains: the records from place `from` on, into the room from place `to` on. The measure is the bytes that are left.
+-- What remains: the records from place `taken` on, into the room from place `written` on. The measure is the bytes that are left.
 use Prim.Native.Nat.{ℕ}
-use mathlib.Core.Path.{◌≡◌, ap, ◌∙◌}
+use mathlib.Core.Path.{◌≡◌, refl, ap, ◌∙◌}
 use mathlib.Core.List.{List, []}
 use native.Mathlib.Omega.{arith}
 use lib.ListN.{length}
 use Rattle.base_lists.specs.Array.{pad}
 use Rattle.base_lists.proofs.Array.{length_pad}
 use Rattle.record_convert.specs.Walk.{walked, Outcomes, outcomes}
+use Rattle.record_convert.proofs.Laws.{zeroes, refusal_some}
 use Rattle.record_convert.proofs.Walk.{Walking, walking_start, walking_len, walking_end, walking_top, walking_stop, walking_less, walking_next}
 use borrow.Author.Rules.{rules}
 use Rattle.record_convert.proofs.convert_all.Invariants.{Inv}
@@ -23,27 +24,27 @@ start v w b n out e =
 same_room : (v w : ℕ) (b : List ℕ) (n m : ℕ) (x : Outcomes) → n ≡ m → x ≡ outcomes (walked v w b n) n → x ≡ outcomes (walked v w b m) m
 same_room v w b n m x e q = q ∙ ap (λ (k : ℕ). outcomes (walked v w b k) k) e
 
-pub loop-from-init : goal.loop-from-init
-loop-from-init c = start _ _ _ _ _ c.clear_bytes.ensures
+pub loop-taken-init : goal.loop-taken-init
+loop-taken-init c = start _ _ _ _ _ (c.fill.ensures.after (search rules) ∙ zeroes _)
 
-pub returns-then-c-ne0-clause-walks : goal.returns-then-c-ne0-clause-walks
-returns-then-c-ne0-clause-walks c =
-    same_room _ _ _ _ _ _ (search rules) (walking_stop _ _ _ _ _ _ _ c.loop-from.invariant.at c.loop-from-test.true _ c.first_length.ensures.0 _ _ _ c.place_record-c.ensures c.if-c-ne0.true)
-
-pub overflow_add-to : goal.overflow_add-to
-overflow_add-to c =
-    let long = c.loop-from.invariant.len in
+pub overflow_add-written : goal.overflow_add-written
+overflow_add-written c =
+    let long = c.loop-taken.invariant.len in
     let top =
-    walking_top _ _ _ _ _ _ _ c.loop-from.invariant.at c.loop-from-test.true _ c.first_length.ensures.0 _ _ _ c.place_record-c.ensures in
+    walking_top _ _ _ _ _ _ _ c.loop-taken.invariant.at c.loop-taken-test.true _ c.first_length.ensures.0 _ _ _ c.in-Ok.ensures in
     record { fits = omega (arith, top, long) }
 
-pub loop-from-smaller : goal.loop-from-smaller
-loop-from-smaller c =
-    walking_less _ _ _ _ _ _ _ c.loop-from.invariant.at c.loop-from-test.true _ c.first_length.ensures.0 _ _ _ c.place_record-c.ensures (search rules)
+pub returns-in-Err-clause-walks : goal.returns-in-Err-clause-walks
+returns-in-Err-clause-walks c =
+    same_room _ _ _ _ _ _ (search rules) (walking_stop _ _ _ _ _ _ _ c.loop-taken.invariant.at c.loop-taken-test.true _ c.first_length.ensures.0 _ _ _ c.in-Err.ensures (refusal_some c.in-Err.why))
 
-pub loop-from-preserved : goal.loop-from-preserved
-loop-from-preserved c =
-    inv _ _ _ _ _ _ _ (walking_next _ _ _ _ _ _ _ c.loop-from.invariant.at c.loop-from-test.true _ c.first_length.ensures.0 _ _ _ c.place_record-c.ensures (search rules) c.first_length.ensures.1)
+pub loop-taken-smaller : goal.loop-taken-smaller
+loop-taken-smaller c =
+    walking_less _ _ _ _ _ _ _ c.loop-taken.invariant.at c.loop-taken-test.true _ c.first_length.ensures.0 _ _ _ c.in-Ok.ensures refl
+
+pub loop-taken-preserved : goal.loop-taken-preserved
+loop-taken-preserved c =
+    inv _ _ _ _ _ _ _ (walking_next _ _ _ _ _ _ _ c.loop-taken.invariant.at c.loop-taken-test.true _ c.first_length.ensures.0 _ _ _ c.in-Ok.ensures refl c.first_length.ensures.1)
 
 pub returns-clause-walks : goal.returns-clause-walks
-returns-clause-walks c = same_room _ _ _ _ _ _ (search rules) (walking_end _ _ _ _ _ _ _ c.loop-from.invariant.at c.loop-from-test.false)
+returns-clause-walks c = same_room _ _ _ _ _ _ (search rules) (walking_end _ _ _ _ _ _ _ c.loop-taken.invariant.at c.loop-taken-test.false)

@@ -1,58 +1,31 @@
--- What remains: the ids from the i-th node on. The measure is their number.
-use Prim.Native.Nat.{ℕ, suc, ◌+◌, ◌-◌, ◌^◌, ◌≤◌, ◌<◌}
-use mathlib.Core.Path.{◌≡◌, sym, ◌∙◌}
-use mathlib.Core.Bool.{Bool, true, false}
+-- What `all` says of the numbers from 0 to n is the definition of the ids of the nodes there.
+use Prim.Native.Nat.{ℕ, zero, suc, ◌+◌, ◌^◌}
+use mathlib.Core.Path.{◌≡◌, refl, ap, ◌∙◌}
+use mathlib.Core.Bool.{Bool, ◌&&◌}
 use mathlib.Core.List.{List}
-use native.Mathlib.Nat.{mul-le-mul_left}
 use native.Mathlib.Numerals.{add-one}
 use native.Mathlib.Omega.{arith}
-use lib.ListN.{length}
-use lib.Dec.{ltb}
-use Rattle.base_lists.specs.Tests.{every}
-use Rattle.record.specs.Format.{node_length_by, place_by}
-use Rattle.record.specs.Read.{entry_at_by, node_at_by, nodes_of_by}
-use Rattle.record.specs.declared.Entry.{Entry}
-use Rattle.record_convert.specs.Convert.{ids_fit}
 use borrow.Author.Rules.{rules}
-use Rattle.record_convert.proofs.ids_fit.Invariants.{Inv}
+use Rattle.std.proofs.Common.{tests}
+use lib.Dec.{ltb}
+use Rattle.std.specs.List.{list_all, range_with_len}
+use Rattle.std.proofs.lemmas.Iterator.{YieldsList-from_range}
+use Rattle.std.proofs.lemmas.Iterator.Search.{all_from_yields_List}
+use Rattle.base_lists.specs.Tests.{every}
+use Rattle.record.specs.Forms.{form_width}
+use Rattle.record.specs.Read.{entry_at_by, node_at_by, nodes_of_by}
+use Rattle.record_convert.specs.Convert.{ids_fit}
 use Rattle.record_convert.proofs.ids_fit.Goals as goal
 
-start : (v w : ℕ) (b : List ℕ) (n : ℕ) → n ≤ 255 → place_by v n ≤ length b → Inv v w b n 0
-start v w b n f r = record { low = omega arith; few = f; room = r; same = λ left k. let q : left ≡ n = omega arith in rw q }
+abbrev one_fits : ℕ → ℕ → List ℕ → ℕ → Bool
+one_fits v w b i = ltb (entry_at_by v b i).id (256 ^ w)
 
-module _ (v w : ℕ) (b : List ℕ) (n i : ℕ) (u : Inv v w b n i) where
-  entry-fits : i < n → place_by v i + node_length_by v ≤ length b
-  entry-fits l = omega (arith, u.room, mul-le-mul_left (node_length_by v) l)
-
-  module _ (e : Entry) (t : Bool) (p : e ≡ entry_at_by v b i) (q : t ≡ ltb e.id (256 ^ w)) where
-    next : i < n → t ≡ true → Inv v w b n (i + 1)
-    unfolding ids_fit every nodes_of_by node_at_by
-    next l y = record {
-      low = omega arith;
-      few = u.few;
-      room = u.room;
-      same = λ left k. u.same (suc left) (omega arith) ∙ rw (← p, ← q, y, add-one i);
-    }
-
-    bad : i < n → t ≡ false → false ≡ ids_fit w (nodes_of_by v b 0 n)
-    unfolding ids_fit every nodes_of_by node_at_by
-    bad l y = sym (u.same (suc (n - suc i)) (omega arith) ∙ rw (← p, ← q, y))
-
-  end : n ≤ i → true ≡ ids_fit w (nodes_of_by v b 0 n)
-  unfolding ids_fit every nodes_of_by
-  end l = sym (u.same 0 (omega (arith, u.low)))
-
-pub loop-i-init : goal.loop-i-init
-loop-i-init c = search (start, rules)
-
-pub node_by-e-requires-clause-w_in_bounds : goal.node_by-e-requires-clause-w_in_bounds
-node_by-e-requires-clause-w_in_bounds c = search entry-fits
-
-pub loop-i-preserved : goal.loop-i-preserved
-loop-i-preserved c = search next
-
-pub returns-else-fits : goal.returns-else-fits
-returns-else-fits c = search bad
+all_fit : (v w : ℕ) (b : List ℕ) (n i : ℕ) → list_all (one_fits v w b) (range_with_len i n) ≡ ids_fit w (nodes_of_by v b i n)
+unfolding ids_fit every nodes_of_by node_at_by
+all_fit v w b zero i = refl
+all_fit v w b (suc n) i = ap (λ (t : Bool). one_fits v w b i && t) (all_fit v w b n (i + 1) ∙ ap (λ (k : ℕ). ids_fit w (nodes_of_by v b k n)) (add-one i))
 
 pub returns : goal.returns
-returns c = search end
+returns c =
+    all_from_yields_List (one_fits (form_width c.args.from) (form_width c.args.to) c.args.b.now) _ _ _ c.all.ensures.ran (YieldsList-from_range 0 c.args.n c.args.n refl (omega arith)) (λ x b q k. search (rules, tests))
+    ∙ all_fit _ _ _ _ 0

@@ -1,6 +1,6 @@
 -- Three writes, each from where the one before it ended, are one write of the entry's fields.
 use Prim.Native.Nat.{ℕ, ◌+◌}
-use mathlib.Core.Path.{◌≡◌}
+use mathlib.Core.Path.{◌≡◌, ap, ◌∙◌}
 use mathlib.Core.List.{List, [], ◌∷◌}
 use native.Mathlib.Omega.{arith}
 use Rattle.base_lists.specs.Bytes.{le, overwrite}
@@ -18,3 +18,4 @@ parts w at e out o₁ o₂ o₃ r q p =
 pub returns : goal.returns
 returns c =
     parts _ _ _ _ _ _ _ c.write_bytes.ensures c.put_number-2.ensures c.put_number.ensures
+    ∙ ap (λ (w : ℕ). overwrite c.args.out.now c.args.at (entry_fields w c.args.e)) c.width-w.ensures

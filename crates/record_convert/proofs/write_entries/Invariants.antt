@@ -1,27 +1,18 @@
--- What remains: the entries from the i-th node on, whose data stand from `reached` on. The measure is their number.
-use Prim.Native.Nat.{ℕ, ◌+◌, ◌*◌, ◌-◌, ◌≤◌}
+-- What remains: the entries from the i-th node on, whose data stand from `reached` on.
+use Prim.Native.Nat.{ℕ, ◌+◌, ◌*◌, ◌≤◌}
 use mathlib.Core.Path.{◌≡◌}
-use mathlib.Core.Bool.{true}
 use mathlib.Core.List.{List}
-use lib.ListN.{length}
 use Rattle.base_lists.specs.Bytes.{overwrite}
 use Rattle.record.specs.Format.{header_length_by, place_by, entries_by}
-use Rattle.record.specs.Read.{header_of_by, well_formed_by, nodes_of_by}
+use Rattle.record.specs.Forms.{form_width}
+use Rattle.record.specs.Read.{nodes_of_by}
 use Rattle.record_convert.proofs.write_entries.Given as goal
 
 pub record Inv (v w : ℕ) (b : List ℕ) (n : ℕ) (out₀ out : List ℕ) (reached i : ℕ) : Type 0 where
-  pub low : i ≤ n
-  pub count : n ≡ (header_of_by v b).nodes
   pub most : n ≤ 32
-  pub well : well_formed_by v b ≡ true
-  pub room : place_by w n ≤ length out
-  pub len : length out ≡ length out₀
   pub small : reached ≤ 3092 + 16 * i
   pub same : (left : ℕ) → i + left ≡ n
       → overwrite out (place_by w i) (entries_by w (nodes_of_by v b i left) reached) ≡ overwrite out₀ (header_length_by w) (entries_by w (nodes_of_by v b 0 n) (place_by w n))
 
 abbrev pub invariant-loop-i : goal.invariant-loop-i
-invariant-loop-i l = Inv l.v l.w l.b l.n l.initial.out l.out l.reached l.i
-
-abbrev pub decreases-loop-i : goal.decreases-loop-i
-decreases-loop-i l = l.n - l.i
+invariant-loop-i l = Inv (form_width l.from) (form_width l.to) l.b l.n l.initial.out l.out l.reached l.i

@@ -11,7 +11,7 @@ use Rattle.record.specs.Format.{header_length_by, place_by, entries_by, size_by,
 use Rattle.record.specs.Read.{header_of_by, well_formed_by, nodes_of_by, rec_of_by}
 use Rattle.record.specs.declared.Header.{Header}
 use Rattle.record_convert.specs.Convert.{header_fields, resized}
-use Rattle.record_convert.proofs.Laws.{reach, size_other, written}
+use Rattle.record_convert.proofs.Laws.{all_bytes, reach, size_other, written}
 use borrow.Author.Rules.{rules}
 use Rattle.record_convert.proofs.write_form.Goals as goal
 
@@ -42,21 +42,21 @@ module _ (v w : ℕ) (b : List ℕ) (t : well_formed_by v b ≡ true) (ok : Byte
       written v w b t ok out o₁ o₂ o₃ (p ∙ ap (λ (x : Header). overwrite out 0 (header_fields w x)) d)
       (q ∙ ap (λ (k : ℕ). overwrite o₁ (header_length_by w) (entries_by w (nodes_of_by v b 0 k) (place_by w k))) n) (r ∙ ap (λ (k : ℕ). overwrite o₂ (place_by w k) (drop (place_by v k) b)) n)
 
-pub write_header-requires-clause-w_in_bounds : goal.write_header-requires-clause-w_in_bounds
-write_header-requires-clause-w_in_bounds c = start _ _ _ c.requires.b_value (λ k. omega (arith, c.type_inv.b k)) _ c.requires.h_value _ c.requires.size_in_bounds
+pub write_header-requires : goal.write_header-requires
+write_header-requires c = start _ _ _ c.requires.b_value (all_bytes _ c.type_inv.b) _ c.requires.h_value _ c.requires.size_in_bounds
 
 pub write_entries-requires-clause-n_value : goal.write_entries-requires-clause-n_value
 write_entries-requires-clause-n_value c = nodes_are _ _ _ _ c.requires.h_value
 
 pub write_entries-requires-clause-n_in_bounds : goal.write_entries-requires-clause-n_in_bounds
-write_entries-requires-clause-n_in_bounds c = entries _ _ _ c.requires.b_value (λ k. omega (arith, c.type_inv.b k)) _ c.requires.h_value _ (search rules)
+write_entries-requires-clause-n_in_bounds c = entries _ _ _ c.requires.b_value (all_bytes _ c.type_inv.b) _ c.requires.h_value _ (search rules)
 
 pub write_data-requires-clause-n_in_bounds : goal.write_data-requires-clause-n_in_bounds
-write_data-requires-clause-n_in_bounds c = within _ _ _ c.requires.b_value (λ k. omega (arith, c.type_inv.b k)) _ c.requires.h_value
+write_data-requires-clause-n_in_bounds c = within _ _ _ c.requires.b_value (all_bytes _ c.type_inv.b) _ c.requires.h_value
 
 pub write_data-requires-clause-n_in_bounds_2 : goal.write_data-requires-clause-n_in_bounds_2
-write_data-requires-clause-n_in_bounds_2 c = all _ _ _ c.requires.b_value (λ k. omega (arith, c.type_inv.b k)) _ c.requires.h_value _ (search rules)
+write_data-requires-clause-n_in_bounds_2 c = all _ _ _ c.requires.b_value (all_bytes _ c.type_inv.b) _ c.requires.h_value _ (search rules)
 
 pub returns : goal.returns
 returns c =
-    whole _ _ _ c.requires.b_value (λ k. omega (arith, c.type_inv.b k)) _ c.requires.h_value _ _ _ _ c.write_header.ensures c.write_entries.ensures c.write_data.ensures
+    whole _ _ _ c.requires.b_value (all_bytes _ c.type_inv.b) _ c.requires.h_value _ _ _ _ c.write_header.ensures c.write_entries.ensures c.write_data.ensures

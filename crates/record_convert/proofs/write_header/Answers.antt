@@ -1,6 +1,6 @@
 -- Four writes, each from where the one before it ended, are one write of the header's fields.
 use Prim.Native.Nat.{ℕ, ◌+◌, ◌*◌}
-use mathlib.Core.Path.{◌≡◌}
+use mathlib.Core.Path.{◌≡◌, ap, ◌∙◌}
 use mathlib.Core.List.{List, [], ◌∷◌}
 use native.Mathlib.Omega.{arith}
 use Rattle.base_lists.specs.Bytes.{le, overwrite}
@@ -19,3 +19,4 @@ parts w h out o₁ o₂ o₃ o₄ s r q p =
 pub returns : goal.returns
 returns c =
     parts _ _ _ _ _ _ _ c.put_tail.ensures c.put_number-2.ensures c.put_number.ensures c.write_bytes.ensures
+    ∙ ap (λ (w : ℕ). overwrite c.args.out.now 0 (header_fields w c.args.h)) c.width-w.ensures

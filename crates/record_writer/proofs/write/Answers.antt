@@ -1,138 +1,134 @@
--- The first loop sums the data's lengths, the second writes nodes up to k into the room found. The measures are the nodes left.
+-- The first loop sums the data's lengths, the second writes nodes up to k into the room found.
 use Prim.Native.Nat.{ℕ, suc, ◌+◌, ◌*◌, ◌≤◌, ◌<◌}
-use mathlib.Core.Path.{◌≡◌, refl, sym, ◌∙◌}
-use mathlib.Core.List.{List}
+use mathlib.Core.Path.{◌≡◌, refl, sym, ap, ◌∙◌}
+use mathlib.Core.List.{List, [], ◌∷◌, map}
+use native.Mathlib.Numerals.{add-one}
 use native.Mathlib.Omega.{arith}
 use borrow.Author.Rules.{rules}
-use lib.ListN.{length, take, get_or}
-use lib.Seq.{slice}
+use lib.ListN.{length, take, drop, get_or, length-map}
+use lib.Seq.{drop-length, length-take-le}
+use Rattle.std.proofs.Common.{length-drop}
 use Rattle.base_lists.specs.Bytes.{overwrite}
-use Rattle.base_lists.proofs.Rest.{rest_at}
+use Rattle.base_lists.proofs.Array.{length_pad}
 use Rattle.base_peer.specs.declared.PeerInfo.{PeerInfo}
-use Rattle.base_peer.specs.Held.{ValidData, node_in}
-use Rattle.record.specs.Format.{most_nodes, header_length, node_length, entry, entries, entries_by, datas}
-use Rattle.record_writer.specs.declared.Nodes.{Nodes}
-use Rattle.record_writer.specs.Nodes.{nodes_in, ValidNodes}
-use Rattle.record_writer.proofs.Laws.{with_nodes, node_next, sum, sum_next, missing, walk_start, walk_valid, walk_next, walk_next_at, walk_left, walk_end}
-use Rattle.record_writer.proofs.Ways.{no_room, room, done, length_nodes}
+use Rattle.base_peer.specs.Held.{node_in}
+use Rattle.record.specs.Format.{header_length, node_length, entry, entries, entries_by, datas}
+use Rattle.record_writer.specs.Blank.{blank}
+use Rattle.record_writer.specs.declared.nodes.Nodes.{Nodes}
+use Rattle.record_writer.specs.Nodes.{nodes_in}
+use Rattle.record_writer.proofs.Laws.{with_nodes, node_next, sum, sum_next, drop_next, data_of}
+use Rattle.record_writer.proofs.Ways.{no_room, room, done}
 use Rattle.record_writer.proofs.write.Invariants.{Sizes, Stored, spot}
 use Rattle.record_writer.proofs.write.Goals as goal
 
-sizes_start : (s : Nodes) → ValidNodes s → Sizes s.items s.len (header_length + node_length * s.len) 0
-sizes_start s v = record { walk = walk_start sum s (header_length + node_length * s.len) v; small = omega arith }
+-- the node that a walk has come to, and those behind it
+to_come : (xs : List PeerInfo) (i : ℕ) (p : PeerInfo) → i < length xs → p ≡ get_or xs i p → drop i xs ≡ p ∷ drop (i + 1) xs
+to_come xs i p h q = drop_next p xs i h ∙ ap (λ (x : PeerInfo). x ∷ drop (suc i) xs) (sym q) ∙ rw (add-one i) refl
 
-module _ (items : List PeerInfo) (n size i : ℕ) (v : Sizes items n size i) where
-  sizes-few : i < n → (get_or items i missing).data.len ≤ 16
-  sizes-few h = (walk_valid sum v.walk h).fits
+at_end : (xs : List PeerInfo) (i : ℕ) → i ≡ length xs → drop i xs ≡ []
+at_end xs i e = rw e (drop-length xs)
 
-  sizes-next : i < n → Sizes items n (size + (get_or items i missing).data.len) (i + 1)
-  sizes-next h = record {
-    walk = walk_next sum v.walk (size + (get_or items i missing).data.len) h (λ l. sum_next size (get_or items i missing) l (walk_valid sum v.walk h));
-    small = omega (arith, v.small, sizes-few h);
+module _ (xs : List PeerInfo) (fixed size i : ℕ) (v : Sizes xs fixed size i) where
+  sizes_next : (p : PeerInfo) (n : ℕ) → i < length xs → p ≡ get_or xs i p → n ≡ length (data_of p) → n ≤ 16 → Sizes xs fixed (size + n) (i + 1)
+  sizes_next p n h q e f = record {
+    sums = rw e (sym (sum_next size p (drop (i + 1) xs))) ∙ ap (sum size) (sym (to_come xs i p h q)) ∙ v.sums;
+    small = omega (arith, v.small);
   }
 
-  sizes-end : n ≤ i → size ≡ sum (header_length + node_length * n) (take n items)
+  sizes_end : i ≡ length xs → size ≡ sum fixed xs
   unfolding datas
-  sizes-end h = omega (arith, walk_end sum v.walk h)
+  sizes_end h = omega (arith, ap (λ (l : List PeerInfo). sum size l) (at_end xs i h), v.sums)
 
-  size_is : n ≤ i → size ≡ header_length + (node_length * n + length (datas (nodes_in (record { items = items; len = n }))))
+-- how many nodes there are, and what they stand for
+module _ (s : Nodes) where
+  abbrev items : List PeerInfo
+  items = take s.len s.items
+
+  count : length items ≡ s.len
+  count = length-take-le s.len s.items (omega (arith, s.fits, ap length s.packed ∙ length_pad blank 32 items))
+
+  nodes_are : nodes_in s ≡ map node_in items
   unfolding nodes_in
-  size_is h = omega (arith, sizes-end h)
+  nodes_are = refl
 
-  sizes-least : n ≤ i → header_length ≤ size
-  sizes-least h = omega (arith, sizes-end h)
+  count_in : s.len ≡ length (nodes_in s)
+  count_in = sym (ap length nodes_are ∙ length-map items node_in ∙ count)
 
-  sizes-most : n ≤ i → size ≤ 928
-  sizes-most h = omega (arith, v.small, v.walk.rest.low, v.walk.rest.top)
+  module _ (size i : ℕ) (v : Sizes items (header_length + node_length * s.len) size i) (e : i ≡ length items) where
+    size_is : size ≡ header_length + (node_length * s.len + length (datas (nodes_in s)))
+    size_is = omega (arith, sizes_end items _ size i v e, ap (λ l. length (datas l)) nodes_are)
 
-stored_start : (out : List ℕ) (at : ℕ) (s : Nodes) → ValidNodes s → at + sum (header_length + node_length * s.len) (take s.len s.items) ≤ length out
-    → Stored out at s.len s.items out (header_length + node_length * s.len) 0
-stored_start out at s v h = record {
-  walk = walk_start (with_nodes at) s (spot out at 0 (header_length + node_length * s.len)) v;
-  sums = walk_start sum s (header_length + node_length * s.len) v;
-  room = h;
+    few : size ≤ 928
+    few = omega (arith, v.small, e, count, s.fits)
+
+    least : header_length ≤ size
+    least = omega (arith, size_is)
+
+stored_start : (s : Nodes) (out o : List ℕ) {at z : ℕ} → at + z ≤ length out → z ≡ header_length + (node_length * s.len + length (datas (nodes_in s))) → length o ≡ length out
+    → Stored o at (header_length + node_length * s.len) (items s) o (header_length + node_length * s.len) 0
+stored_start s out o h e l = record {
+  walk = refl;
+  sums = refl;
+  room = omega (arith, h, e, l, ap (λ x. length (datas x)) (nodes_are s));
   low = omega arith;
   len = refl;
 }
 
-module _ (out₀ : List ℕ) (at n : ℕ) (items : List PeerInfo) (out : List ℕ) (reached k : ℕ) (v : Stored out₀ at n items out reached k) where
-  stored-few : k < n → (get_or items k missing).data.len ≤ 16
-  stored-few h = (walk_valid sum v.sums h).fits
+module _ (out₀ : List ℕ) (at n : ℕ) (xs : List PeerInfo) (out : List ℕ) (reached k : ℕ) (c : length xs ≡ n) (v : Stored out₀ at (header_length + node_length * n) xs out reached k) where
+  module _ (p : PeerInfo) (h : k < length xs) (q : p ≡ get_or xs k p) where
+    entry_room : at + (header_length + node_length * k + node_length) ≤ length out
+    entry_room = omega (arith, v.room, c)
 
-  here : k < n → ValidData (get_or items k missing).data
-  here h = walk_valid sum v.sums h
+    data_room : at + reached + length (data_of p) ≤ length out
+    data_room = omega (arith, v.room, sym v.sums ∙ ap (sum reached) (to_come xs k p h q) ∙ sum_next reached p (drop (k + 1) xs))
 
-  few : k < n → k < most_nodes
-  few h = omega (arith, v.sums.rest.top)
+    stored_next : (m : ℕ) (o : List ℕ) → m ≡ length (data_of p)
+        → o ≡ overwrite (overwrite out (at + (header_length + node_length * k)) (entry (node_in p) reached)) (at + reached) (data_of p)
+        → length o ≡ length out → Stored out₀ at (header_length + node_length * n) xs o (reached + m) (k + 1)
+    stored_next m o z e l = record {
+      walk = rw z
+          (sym (node_next at out o (at + (header_length + node_length * k)) (at + (header_length + node_length * (k + 1))) reached p (drop (k + 1) xs) e (omega arith)
+          (omega (arith, v.low, length-drop (k + 1) xs, c))))
+          ∙ ap (with_nodes at (spot out at k reached)) (sym (to_come xs k p h q)) ∙ v.walk;
+      sums = rw z (sym (sum_next reached p (drop (k + 1) xs))) ∙ ap (sum reached) (sym (to_come xs k p h q)) ∙ v.sums;
+      room = omega (arith, v.room, l);
+      low = omega (arith, v.low);
+      len = l ∙ v.len;
+    }
 
-  entry_room : k < n → at + (header_length + node_length * k + node_length) ≤ length out
-  entry_room h = omega (arith, v.room)
+  stored_end : k ≡ length xs
+      → out ≡ overwrite (overwrite out₀ (at + header_length) (entries (map node_in xs) (header_length + node_length * n))) (at + (header_length + node_length * n)) (datas (map node_in xs))
+  unfolding datas entries_by overwrite
+  stored_end h = ap (with_nodes at (spot out at k reached)) (sym (at_end xs k h)) ∙ v.walk
 
-  data_room : k < n → at + reached + (get_or items k missing).data.len ≤ length out
-  data_room h = omega (arith, v.room, rest_at missing sum v.sums.rest h ∙ sum_next reached (get_or items k missing) (slice (suc k) n items) (here h))
+pub loop-p-preserved : goal.loop-p-preserved
+loop-p-preserved c =
+    sizes_next _ _ _ _ c.loop-p.invariant _ _ c.loop-p-test.true c.p-item.is c.data_len-size.ensures.0 c.data_len-size.ensures.1
 
-  stored_next : (o : List ℕ)
-      → o ≡ overwrite (overwrite out (at + (header_length + node_length * k)) (entry (node_in (get_or items k missing)) reached)) (at + reached) (take (get_or items k missing).data.len (get_or items k missing).data.bytes)
-      → length o ≡ length out → k < n → Stored out₀ at n items o (reached + (get_or items k missing).data.len) (k + 1)
-  stored_next o e q h = record {
-    walk = walk_next_at (with_nodes at) v.walk (spot o at (k + 1) (reached + (get_or items k missing).data.len)) h
-        (node_next at out o (at + (header_length + node_length * k)) (at + (header_length + node_length * (k + 1))) reached (get_or items k missing) (slice (suc k) n items) (here h) e (omega arith)
-        (omega (arith, v.low, walk_left sum v.sums)));
-    sums = walk_next sum v.sums (reached + (get_or items k missing).data.len) h (λ l. sum_next reached (get_or items k missing) l (here h));
-    room = omega (arith, v.room);
-    low = omega (arith, v.low);
-    len = q ∙ v.len;
-  }
+pub put_header-requires : goal.put_header-requires
+put_header-requires c = least c.args.ns.now _ _ c.loop-p.invariant (search rules)
 
-  stored-end : n ≤ k
-      → out ≡ overwrite (overwrite out₀ (at + header_length) (entries (nodes_in (record { items = items; len = n })) (header_length + node_length * n))) (at + (header_length + node_length * n)) (datas (nodes_in (record { items = items; len = n })))
-  unfolding nodes_in datas entries_by overwrite
-  stored-end h = sym (walk_end (with_nodes at) v.walk h)
-
-pub loop-i-init : goal.loop-i-init
-loop-i-init c = search sizes_start
-
-pub overflow_add-size : goal.overflow_add-size
-overflow_add-size c = search (sizes-few, rules)
-
-pub loop-i-preserved : goal.loop-i-preserved
-loop-i-preserved c = search sizes-next
-
-pub overflow_cast-size-2 : goal.overflow_cast-size-2
-overflow_cast-size-2 c = search (sizes-most, rules)
-
-pub put_header-a-requires : goal.put_header-a-requires
-put_header-a-requires c = search sizes-least
-
-pub returns-in_default : goal.returns-in_default
-returns-in_default c =
-    no_room _ _ _ _ _ _ _ _ (sym (length_nodes _ c.requires)) (size_is _ _ _ _ c.loop-i.invariant c.loop-i-test.false) c.put_header-a.ensures c.in_default.is
+pub returns-in_err-end : goal.returns-in_err-end
+returns-in_err-end c =
+    rw c.from_residual.ensures
+    (no_room _ _ _ _ _ _ _ _ (count_in c.args.ns.now) (size_is c.args.ns.now _ _ c.loop-p.invariant (search rules)) (rw c.in_err-end.was at c.put_header.ensures) refl)
 
 pub loop-k-init : goal.loop-k-init
 loop-k-init c =
-    let left = c.loop-i-test.false in
-    let fits = room _ (nodes_in c.args.ns) _ _ _ _ _ _ (sym (length_nodes _ c.requires)) (size_is _ _ _ _ c.loop-i.invariant left) c.put_header-a.ensures _ c.in-At.is in
-    stored_start _ _ _ c.requires (omega (arith, fits, sizes-end _ _ _ _ c.loop-i.invariant left, c.put_header-a.auto.out))
+    stored_start c.args.ns.now _ _ (room _ _ _ _ _ _ _ _ (count_in c.args.ns.now) (size_is c.args.ns.now _ _ c.loop-p.invariant (search rules)) c.put_header.ensures _ c.in_ok-end.was)
+    (size_is c.args.ns.now _ _ c.loop-p.invariant (search rules)) c.put_header.auto.out
 
-pub put_node-requires-clause-valid_data : goal.put_node-requires-clause-valid_data
-put_node-requires-clause-valid_data c = search here
-
-pub put_node-requires-clause-i_lt_most_nodes : goal.put_node-requires-clause-i_lt_most_nodes
-put_node-requires-clause-i_lt_most_nodes c = search few
-
-pub put_node-requires-clause-node_length_in_bounds : goal.put_node-requires-clause-node_length_in_bounds
-put_node-requires-clause-node_length_in_bounds c = search entry_room
-
-pub put_node-requires-clause-len_in_bounds : goal.put_node-requires-clause-len_in_bounds
-put_node-requires-clause-len_in_bounds c = search data_room
-
-pub overflow_add-reached : goal.overflow_add-reached
-overflow_add-reached c = search (stored-few, rules)
+pub put_node-requires-clause-data_in_bounds : goal.put_node-requires-clause-data_in_bounds
+put_node-requires-clause-data_in_bounds c =
+    data_room _ _ _ _ _ _ _ (count c.args.ns.now) c.loop-k.invariant _ c.loop-k-test.true c.index-nodes-k.is
 
 pub loop-k-preserved : goal.loop-k-preserved
-loop-k-preserved c = search stored_next
+loop-k-preserved c =
+    stored_next _ _ _ _ _ _ _ (count c.args.ns.now) c.loop-k.invariant _ c.loop-k-test.true c.index-nodes-k.is _ _ c.data_len-reached.ensures.0 c.put_node.ensures c.put_node.auto.out
 
 pub returns : goal.returns
+unfolding nodes_in
 returns c =
-    done _ _ _ _ _ _ _ _ (sym (length_nodes _ c.requires)) (size_is _ _ _ _ c.loop-i.invariant c.loop-i-test.false) c.put_header-a.ensures _ c.in-At.is _
-    (stored-end _ _ _ _ _ _ _ c.loop-k.invariant c.loop-k-test.false)
+    rw (← c.in_ok-end.was)
+    (done _ _ _ _ _ _ _ _ (count_in c.args.ns.now) (size_is c.args.ns.now _ _ c.loop-p.invariant (search rules)) c.put_header.ensures _ c.in_ok-end.was _
+    (stored_end _ _ _ _ _ _ _ (count c.args.ns.now) c.loop-k.invariant (search rules)))

@@ -3,4 +3,4 @@ use Rattle.record_writer.proofs.Ways.{done_bare}
 use Rattle.record_writer.proofs.write_bare.Goals as goal
 
 pub returns : goal.returns
-returns c = search done_bare
+returns c = done_bare _ _ _ _ _ c.put_header.ensures

@@ -1,5 +1,5 @@
--- The invariant: the rest must be the events that are left. The measure is their number.
-use Prim.Native.Nat.{ℕ, ◌-◌, ◌≤◌, ◌<◌}
+-- The rest must be the events that are left: none of so many, or one and the others, or no bytes.
+use Prim.Native.Nat.{ℕ, ◌+◌, ◌-◌, ◌≤◌, ◌<◌}
 use mathlib.Core.Path.{◌≡◌, refl, sym, ap, ◌∙◌}
 use mathlib.Core.Bool.{Bool, false}
 use mathlib.Core.List.{List, [], ◌∷◌}
@@ -19,28 +19,26 @@ unfolding null
 null_length [] = sym (eq-eqb 0 0 refl)
 null_length (x ∷ l) = sym (ne_eqb (length (x ∷ l)) 0 (λ e. omega arith))
 
-module _ (whole : Bool) (l : List ℕ) (left : ℕ) (same : whole ≡ are_events left l) where
-  none : (size : ℕ) → 0 < left → size ≡ event_length l → size ≡ 0 → false ≡ whole
-  none size h e z = sym (same ∙ none_first left l h (sym e ∙ z))
+module _ (whole : Bool) (l : List ℕ) (n i : ℕ) (same : whole ≡ are_events (n - i) l) where
+  none : (size : ℕ) → i < n → size ≡ event_length l → size ≡ 0 → false ≡ whole
+  none size h e z = sym (same ∙ none_first (n - i) l (omega (arith, h)) (sym e ∙ z))
 
-  next : (size : ℕ) → 0 < left → size ≡ event_length l → (size ≡ 0 → ⊥) → whole ≡ are_events (left - 1) (take (length l - size) (drop size l))
+  next : (size : ℕ) → i < n → size ≡ event_length l → (size ≡ 0 → ⊥) → whole ≡ are_events (n - (i + 1)) (take (length l - size) (drop size l))
   next size h e z =
-      same ∙ (one_first left l h (λ q. z (e ∙ q))
-      ∙ (ap (λ (n : ℕ). are_events (left - 1) (drop n l)) (sym e)
-      ∙ ap (are_events (left - 1)) (sym (take_all (length l - size) (drop size l) (omega (arith, length-drop size l))))))
+      let left : n - i - 1 ≡ n - (i + 1) = omega arith in
+      same ∙ (one_first (n - i) l (omega (arith, h)) (λ q. z (e ∙ q))
+      ∙ ((λ j. are_events (left j) (drop (sym e j) l))
+      ∙ ap (are_events (n - (i + 1))) (sym (take_all (length l - size) (drop size l) (omega (arith, length-drop size l))))))
 
-  end : left ≤ 0 → eqb (length l) 0 ≡ whole
+  end : n ≤ i → eqb (length l) 0 ≡ whole
   unfolding are_events
-  end h = let z : left ≡ 0 = omega (arith, h) in sym (same ∙ (ap (λ (n : ℕ). are_events n l) z ∙ null_length l))
-
-pub loop-left-init : goal.loop-left-init
-loop-left-init c = refl
+  end h = let z : n - i ≡ 0 = omega (arith, h) in sym (same ∙ (ap (λ (k : ℕ). are_events k l) z ∙ null_length l))
 
 pub returns-then-size-eq0 : goal.returns-then-size-eq0
 returns-then-size-eq0 c = search none
 
-pub loop-left-preserved : goal.loop-left-preserved
-loop-left-preserved c = search next
+pub loop-preserved : goal.loop-preserved
+loop-preserved c = search next
 
 pub returns : goal.returns
-returns c = search end
+returns c = c.is_empty.ensures ∙ end _ _ _ _ c.loop.invariant (omega arith)

@@ -1,5 +1,5 @@
--- The invariant: the places before i hold the numbers that are wanted. The measure is the number of places left.
-use Prim.Native.Nat.{ℕ, ◌-◌, ◌≤◌}
+-- The places passed hold the numbers that are wanted.
+use Prim.Native.Nat.{ℕ}
 use mathlib.Core.List.{List}
 use lib.ListN.{length}
 use Rattle.base_lists.proofs.Front.{Front}
@@ -10,7 +10,4 @@ abbrev pub Wanted : List ℕ → List ℕ → List ℕ → ℕ → Type 0
 Wanted b to₀ to i = Front 0 (length to₀) (numbers (length to₀) 0 b) to₀ to i
 
 abbrev pub invariant-loop-i : goal.invariant-loop-i
-invariant-loop-i l = (l.i ≤ length l.initial.to) × Wanted l.b l.initial.to l.to l.i
-
-abbrev pub decreases-loop-i : goal.decreases-loop-i
-decreases-loop-i l = length l.initial.to - l.i
+invariant-loop-i l = Wanted l.b l.initial.to l.to l.i

@@ -4,4 +4,4 @@ use Rattle.run_listing.proofs.Stream.{end_fronts}
 use Rattle.run_listing.proofs.end_line.Goals as goal
 
 pub returns : goal.returns
-returns c = search (end_fronts, rules)
+returns c = end_fronts _ _ _ _ _ _ c.requires c.new-t.ensures c.put_end.ensures (search rules)

@@ -6,8 +6,8 @@ use Rattle.run_listing.proofs.open.Goals as goal
 pub returns-then-m-ne0 : goal.returns-then-m-ne0
 returns-then-m-ne0 c = search (open_whole, open_unset, rules)
 
-pub returns-in-Refused : goal.returns-in-Refused
-returns-in-Refused c = search (open_refused, rules)
+pub returns-in_default : goal.returns-in_default
+returns-in_default c = search (open_refused, rules)
 
-pub returns-else-m-ne0 : goal.returns-else-m-ne0
-returns-else-m-ne0 c = search (open_whole, open_events, rules)
+pub returns : goal.returns
+returns c = search (open_whole, open_events, rules)

@@ -7,24 +7,24 @@ use Rattle.run_listing.proofs.put_run.Goals as goal
 
 pub slice_bounds-read_numbers-count : goal.slice_bounds-read_numbers-count
 slice_bounds-read_numbers-count c =
-    search (rules, opened_laid _ _ _ c.open-o.ensures c.in-Events.is)
+    search (rules, opened_laid _ _ _ c.open.ensures c.in-Ok.is)
 
 pub slice_bounds-read_numbers-start : goal.slice_bounds-read_numbers-start
 slice_bounds-read_numbers-start c =
-    search (rules, opened_laid _ _ _ c.open-o.ensures c.in-Events.is)
+    search (rules, opened_laid _ _ _ c.open.ensures c.in-Ok.is)
 
 pub put_walk-requires-clause-laid : goal.put_walk-requires-clause-laid
-put_walk-requires-clause-laid c = opened_laid _ _ _ c.open-o.ensures c.in-Events.is
+put_walk-requires-clause-laid c = opened_laid _ _ _ c.open.ensures c.in-Ok.is
 
 pub put_walk-requires-clause-prefix_len : goal.put_walk-requires-clause-prefix_len
-put_walk-requires-clause-prefix_len c = (numbers_read _ _ _ _ (opened_laid _ _ _ c.open-o.ensures c.in-Events.is) refl c.read_numbers.ensures).0
+put_walk-requires-clause-prefix_len c = (numbers_read _ _ _ _ (opened_laid _ _ _ c.open.ensures c.in-Ok.is) refl c.read_numbers.ensures).0
 
 pub put_walk-requires-clause-drawn_value : goal.put_walk-requires-clause-drawn_value
-put_walk-requires-clause-drawn_value c = (numbers_read _ _ _ _ (opened_laid _ _ _ c.open-o.ensures c.in-Events.is) refl c.read_numbers.ensures).1
+put_walk-requires-clause-drawn_value c = (numbers_read _ _ _ _ (opened_laid _ _ _ c.open.ensures c.in-Ok.is) refl c.read_numbers.ensures).1
 
-pub returns-in-Line : goal.returns-in-Line
-returns-in-Line c = search (run_line, rules)
+pub returns-in-Err : goal.returns-in-Err
+returns-in-Err c = run_line _ _ c.open.ensures _ _ _ _ c.in-Err.is c.from.ensures c.put_end.ensures
 
-pub returns-in-Events : goal.returns-in-Events
-returns-in-Events c =
-    run_events _ _ c.open-o.ensures _ _ _ _ _ _ c.in-Events.is c.begin-p.ensures c.put_walk.ensures
+pub returns-in-Ok : goal.returns-in-Ok
+returns-in-Ok c =
+    run_events _ _ c.open.ensures _ _ _ _ c.in-Ok.is c.begin-p.ensures c.put_walk.ensures

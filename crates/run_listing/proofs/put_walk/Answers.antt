@@ -1,14 +1,10 @@
--- The events to come are listed after what was written. The measure is how many they are.
+-- The events to come are listed after what was written.
 use borrow.Author.Rules.{rules}
 use Rattle.run_listing.proofs.Laws.{running_start, running_next, running_end, walked}
 use Rattle.run_listing.proofs.put_walk.Goals as goal
 
 pub loop-i-init : goal.loop-i-init
 loop-i-init c = search (running_start, rules)
-
-pub overflow_add-i : goal.overflow_add-i
-overflow_add-i c =
-    search (rules, c.requires.laid)
 
 pub loop-i-preserved : goal.loop-i-preserved
 loop-i-preserved c = search (running_next, rules)

@@ -10,4 +10,5 @@ pub returns-then-n-eq0 : goal.returns-then-n-eq0
 returns-then-n-eq0 c = search (lines_none, rules)
 
 pub returns : goal.returns
-returns c = search (lines_one, rules)
+returns c =
+    lines_one _ _ _ c.read_header-h.ensures c.if-records-lt-HEADER.false _ _ _ _ c.if-n-eq0.false c.requires c.new-t.ensures c.put_record.ensures (search rules)

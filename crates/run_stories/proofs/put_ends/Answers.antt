@@ -3,5 +3,4 @@ use Rattle.run_stories.proofs.Laws.{ends_put}
 use Rattle.run_stories.proofs.put_ends.Goals as goal
 
 pub returns : goal.returns
-returns c =
-    ends_put _ _ _ _ _ _ _ _ _ _ _ c.put_line.ensures c.put_line-t3.ensures c.put_line-t2.ensures c.put_line-t1.ensures
+returns c = ends_put _ _ _ _ _ _ c.put_line-4.ensures c.put_line-3.ensures c.put_line-2.ensures c.put_line.ensures

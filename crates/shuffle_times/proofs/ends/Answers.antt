@@ -1,6 +1,6 @@
--- Each end so far, with the shuffles to come, leads to the end wanted, and its sum still fits. The measure is the shuffles left.
+-- Each end so far, with the shuffles to come, leads to the end wanted, and its sum still fits.
 use Prim.Native.Nat.{ℕ, zero, suc, ◌+◌, ◌-◌, ◌≤◌, ◌<◌}
-use mathlib.Core.Path.{◌≡◌, sym, ◌∙◌}
+use mathlib.Core.Path.{◌≡◌, sym, subst, ◌∙◌}
 use native.Mathlib.Omega.{arith}
 use mir.Val.{Fits}
 use mir.Syntax.{w64}
@@ -34,6 +34,10 @@ module _ (earliest latest top k low high i left : ℕ) (v : Inv earliest latest 
         upper = record { same = v.upper.same ∙ one_more top i high left highest_draw h; room = omega (arith, v.upper.room) };
       })
 
+  -- the same, where the shuffles left are counted from k down
+  next_left : (x y j m : ℕ) → 1 ≤ top → top ≤ 3600000 → 0 < left → x ≡ delay i lowest_draw → y ≡ delay i highest_draw → j ≡ next_interval top i → m ≡ left - 1 → Inv earliest latest top k (low + x) (high + y) j m
+  next_left x y j m h t z p q e f = subst (λ (n : ℕ). Inv earliest latest top k (low + x) (high + y) j n) (sym f) (next x y j h t z p q e)
+
   fits_low : (x : ℕ) → 0 < left → x ≡ delay i lowest_draw → Fits w64 (low + x)
   fits_low x h p = record { fits = omega (arith, v.bottom.room, delay_few i v.interval, delay_rises i lowest_draw highest_draw (omega arith)) }
 
@@ -50,14 +54,14 @@ module _ (earliest latest top k low high i left : ℕ) (v : Inv earliest latest 
     latest = sym (v.upper.same ∙ last highest_draw high h) j;
   }
 
-pub loop-left-init : goal.loop-left-init
-loop-left-init c = search start
+pub loop-init : goal.loop-init
+loop-init c = search start
 
 pub least_delay-low-requires : goal.least_delay-low-requires
 least_delay-low-requires c = search least
 
 pub overflow_add-low : goal.overflow_add-low
-overflow_add-low c = search fits_low
+overflow_add-low c = search (fits_low, arith)
 
 pub most_delay-high-requires-clause-le_interval : goal.most_delay-high-requires-clause-le_interval
 most_delay-high-requires-clause-le_interval c = search some
@@ -66,13 +70,15 @@ pub most_delay-high-requires-clause-interval_le_longest_time : goal.most_delay-h
 most_delay-high-requires-clause-interval_le_longest_time c = search least
 
 pub overflow_add-high : goal.overflow_add-high
-overflow_add-high c = search fits_high
+overflow_add-high c = search (fits_high, arith)
 
 pub next_interval-interval-requires : goal.next_interval-interval-requires
 next_interval-interval-requires c = search least
 
-pub loop-left-preserved : goal.loop-left-preserved
-loop-left-preserved c = search next
+pub loop-preserved : goal.loop-preserved
+loop-preserved c =
+    next_left _ _ _ _ _ _ _ _ c.loop.invariant _ _ _ _ c.requires.le_top c.requires.top_le_longest_time (omega (arith, c.loop-test.true)) c.least_delay-low.ensures
+    c.most_delay-high.ensures c.next_interval-interval.ensures (omega arith)
 
 pub returns : goal.returns
-returns c = search end
+returns c = search (end, arith)

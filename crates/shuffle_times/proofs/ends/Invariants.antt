@@ -1,5 +1,5 @@
--- Each end so far, with the shuffles to come, leads to the end wanted, and its sum still fits. The measure is the shuffles left.
-use Prim.Native.Nat.{ℕ, ◌+◌, ◌*◌, ◌≤◌}
+-- Each end so far, with the shuffles to come, leads to the end wanted, and its sum still fits.
+use Prim.Native.Nat.{ℕ, ◌+◌, ◌*◌, ◌-◌, ◌≤◌}
 use mathlib.Core.Path.{◌≡◌, refl}
 use native.Mathlib.Omega.{arith}
 use lib.ListN.{replicate}
@@ -17,15 +17,12 @@ pub record Inv (earliest latest top k low high i left : ℕ) : Type 0 where
   pub bottom : End lowest_draw earliest top k low i left
   pub upper : End highest_draw latest top k high i left
 
-pub start : (earliest latest top k i : ℕ) → earliest ≤ latest_start → latest ≤ latest_start → 1 ≤ top → top ≤ 3600000 → k ≤ most_shuffles → i ≡ first_interval top → Inv earliest latest top k earliest latest i k
-start earliest latest top k i a b l m f e = rw e (record {
+pub start : (earliest latest top k i : ℕ) → earliest ≤ latest_start → latest ≤ latest_start → 1 ≤ top → top ≤ 3600000 → k ≤ most_shuffles → i ≡ first_interval top → Inv earliest latest top k earliest latest i (k - 0)
+start earliest latest top k i a b l m f e = let z : k - 0 ≡ k = omega arith in rw (e, z) (record {
   interval = first_ok top (record { least = l; most = m });
   bottom = record { same = refl; room = omega arith };
   upper = record { same = refl; room = omega arith };
 })
 
-abbrev pub invariant-loop-left : goal.invariant-loop-left
-invariant-loop-left l = Inv l.earliest l.latest l.top l.k l.low l.high l.interval l.left
-
-abbrev pub decreases-loop-left : goal.decreases-loop-left
-decreases-loop-left l = l.left
+abbrev pub invariant-loop : goal.invariant-loop
+invariant-loop l = Inv l.earliest l.latest l.top l.k l.low l.high l.interval (l.k - l.counter)

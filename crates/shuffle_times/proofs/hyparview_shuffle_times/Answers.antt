@@ -35,9 +35,9 @@ module _ (earliest latest : ℕ) (config : Config) (k : ℕ) (t : Bool) (p : t �
     unfolding due_by
     both r e = e ∙ sym (times_are earliest latest config k (sym p ∙ q))
 
-  neither : t ≡ false → ◌≡◌ {A = ShuffleTimes} (record { earliest = 0; latest = 0 }) (shuffle_times earliest latest config k)
+  neither : (r : ShuffleTimes) → r.earliest ≡ 0 → r.latest ≡ 0 → t ≡ false → r ≡ shuffle_times earliest latest config k
   unfolding shuffle_times
-  neither q = sym (choose_no (has_times earliest latest config k) _ _ (sym p ∙ q))
+  neither r a b q = (λ i. record { earliest = a i; latest = b i }) ∙ sym (choose_no (has_times earliest latest config k) _ _ (sym p ∙ q))
 
 pub ends-requires-clause-earliest_le_latest_start : goal.ends-requires-clause-earliest_le_latest_start
 ends-requires-clause-earliest_le_latest_start c = search early

@@ -1,6 +1,4 @@
 -- Work that stopped at the notice adds nothing more; else entry, limit and count become one change, after which the reply is told.
-use mathlib.Core.Path.{sym, ◌∙◌}
-use Rattle.hyparview_state.specs.Unpack.{long}
 use Rattle.step_active.proofs.Entering.{gained, not_added, entered, added_unchecked}
 use borrow.Author.Rules.{rules}
 use Rattle.step_active.proofs.add_active_unchecked.Goals as goal
@@ -12,7 +10,6 @@ pub reply_neighbor-requires : goal.reply_neighbor-requires
 reply_neighbor-requires c =
     let gain = gained _ _ _ _ _ c.keep_limit.ensures c.unless_recovery-limit.ensures (search rules) c.limit_of-old.ensures in
     let enter = entered _ _ _ _ _ _ _ _ c.requires.given_room c.notify-b.ensures c.move_in-a.ensures _ c.if-b-ne0.false gain in record {
-      st_len = long enter.room.packed;
       given_room = enter.room;
     }
 
@@ -21,7 +18,3 @@ returns c =
     let gain = gained _ _ _ _ _ c.keep_limit.ensures c.unless_recovery-limit.ensures (search rules) c.limit_of-old.ensures in
     let enter = entered _ _ _ _ _ _ _ _ c.requires.given_room c.notify-b.ensures c.move_in-a.ensures _ c.if-b-ne0.false gain in
     added_unchecked _ _ _ _ _ _ _ _ _ _ _ _ c.reply_neighbor.ensures enter
-
-pub shape_of-st : goal.shape_of-st
-shape_of-st c =
-    long (returns c).room.packed ∙ sym c.requires.st_len

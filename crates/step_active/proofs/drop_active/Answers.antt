@@ -1,6 +1,5 @@
 -- Work with a code drops nothing; else the pin ends, the view loses one peer, still fits its capacity, and the notice follows.
 use Rattle.base_util.specs.Section.{part}
-use Rattle.hyparview_state.specs.Unpack.{unpack, station_of}
 use Rattle.hyparview_state.proofs.Access.{of_packed}
 use Rattle.step_active.proofs.Leaving.{place_kept, left_active, not_dropped, dropped}
 use borrow.Author.Rules.{rules}

@@ -6,7 +6,7 @@ use Rattle.base_util.proofs.Sets.{empty_is_null}
 use Rattle.hyparview_state.specs.Unpack.{unpack, station_of}
 use Rattle.hyparview_state.proofs.Access.{of_packed}
 use Rattle.step_sending.proofs.Told.{fine_drawn, room_drawn}
-use Rattle.step_active.proofs.Leaving.{fine_told, sent_loose, loose_picked, settled_random, by_index, picked_removed, picked_place, no_slot, one_slot}
+use Rattle.step_active.proofs.Leaving.{sent_loose, loose_picked, settled_random, by_index, picked_removed, picked_place, no_slot, one_slot}
 use borrow.Author.Rules.{rules}
 use Rattle.step_active.proofs.free_random_slot_in_active_view.Goals as goal
 
@@ -14,9 +14,6 @@ pub returns-then-n-eq0 : goal.returns-then-n-eq0
 returns-then-n-eq0 c =
     let from = c.without_pin.ensures in
     no_slot _ _ _ _ _ _ from (empty_is_null working_places _ from.valid) c.requires.given (eq-eqb _ _ c.if-n-eq0.true)
-
-pub bounds-from-k : goal.bounds-from-k
-bounds-from-k c = let from = c.without_pin.ensures in omega (arith, c.draw_one_of-t.ensures.index_value.1, from.valid.fits, from.valid.long)
 
 pub position-i-requires : goal.position-i-requires
 unfolding part
@@ -27,17 +24,10 @@ unfolding part unpack station_of
 drop_active-a-requires c =
     let drawn = c.draw_one_of-t.ensures in
     let there = picked_place c.args.st.now _ _ _ c.without_pin.ensures drawn.index_value.1 c.position-i.ensures.0 in record {
-      st_len = search (rules, c.requires.st_len);
       given_room = room_drawn _ _ _ _ _ c.requires.given drawn.draws_any;
       i_in_bounds = there.0;
       p_value = there.1;
     }
-
-pub send_disconnect-b-requires-clause-st_len : goal.send_disconnect-b-requires-clause-st_len
-send_disconnect-b-requires-clause-st_len c = search (rules, c.drop_active-a.auto, c.requires.st_len)
-
-pub send_disconnect-b-requires-clause-given : goal.send_disconnect-b-requires-clause-given
-send_disconnect-b-requires-clause-given c = fine_told _ _ _ _ _ _ _ (fine_drawn _ _ _ _ _ c.requires.given c.draw_one_of-t.ensures.draws_any) c.drop_active-a.ensures
 
 pub demote-requires : goal.demote-requires
 unfolding part unpack station_of
@@ -46,7 +36,6 @@ demote-requires c =
     let from = c.without_pin.ensures in
     let there = picked_place c.args.st.now _ _ _ from drawn.index_value.1 c.position-i.ensures.0 in
     let loose = loose_picked _ _ _ _ _ _ _ _ _ _ _ c.requires.given c.requires.meets (omega (arith, from.valid.fits)) there c.drop_active-a.ensures drawn.draws_any in record {
-      st_len = search (rules, c.drop_active-a.auto, c.requires.st_len);
       given = search rules;
       meets = λ _. sent_loose _ _ _ _ _ _ _ _ loose c.send_disconnect-b.ensures;
     }

@@ -9,20 +9,16 @@ use Rattle.hyparview_state.proofs.Access.{of_packed, of_recent}
 use Rattle.step_active.proofs.Entering.{place_active, left_free, not_moved, pushed, remembered, moved_in}
 use borrow.Author.Rules.{rules}
 use Rattle.step_active.proofs.move_in.Goals as goal
+use Rattle.step_active.proofs.move_in.Goals.{After-push, After-renew}
 
 -- What the two calls made of the sections.
-active_after : (c : goal.After-renew-arg-1) → HoldsSet 8 c.push.new.s (items_at active_places (active_part c.drop_mark-b.new.st) ++ (c.args.p ∷ []))
+active_after : (c : After-push) → HoldsSet 8 c.push.new.s (items_at active_places (active_part c.drop_mark-b.new.st) ++ (c.args.p ∷ []))
 unfolding part
 active_after c = c.push.ensures
 
-recent_after : (c : goal.After-slice_known-5-1) → HoldsSet 8 c.renew.new.s (renew 8 c.args.p (items_at recent_places (recent_part (put_mid active_at active_size c.drop_mark-b.new.st c.push.new.s))))
+recent_after : (c : After-renew) → HoldsSet 8 c.renew.new.s (renew 8 c.args.p (items_at recent_places (recent_part (put_mid active_at active_size c.drop_mark-b.new.st c.push.new.s))))
 unfolding part
 recent_after c = c.renew.ensures
-
--- What the two calls made of the sections.
-active_after_2 : (c : goal.After-slice_known-5-1) → HoldsSet 8 c.push.new.s (items_at active_places (active_part c.drop_mark-b.new.st) ++ (c.args.p ∷ []))
-unfolding part
-active_after_2 c = c.push.ensures
 
 pub returns-then-b-ne0 : goal.returns-then-b-ne0
 returns-then-b-ne0 c =
@@ -41,7 +37,7 @@ unfolding part
 renew-requires c =
     let left = c.drop_mark-b.ensures in
     let free = left_free _ _ _ _ _ _ _ left c.remove_passive-a.ensures c.requires.free_active in record {
-      valid_set = of_recent _ (pushed c.drop_mark-b.result _ _ left.packed c.if-b-ne0.false _ free (active_after c)).packed;
+      valid_set = of_recent _ (pushed c.drop_mark-b.result _ _ left.packed c.if-b-ne0.false _ free (active_after (goal.at.renew-requires c).After-push)).packed;
       le_most = (omega arith, omega arith);
     }
 
@@ -50,5 +46,5 @@ returns c =
     let left = c.drop_mark-b.ensures in
     let code = c.if-b-ne0.false in
     let free = left_free _ _ _ _ _ _ _ left c.remove_passive-a.ensures c.requires.free_active in
-    let push = pushed _ _ _ left.packed code _ free (active_after_2 c) in
-    moved_in _ _ _ _ _ _ _ left c.remove_passive-a.ensures _ _ _ _ (remembered _ _ _ push.packed code _ (recent_after c)) push
+    let push = pushed _ _ _ left.packed code _ free (active_after (goal.at.returns c).After-push) in
+    moved_in _ _ _ _ _ _ _ left c.remove_passive-a.ensures _ _ _ _ (remembered _ _ _ push.packed code _ (recent_after (goal.at.returns c).After-renew)) push

@@ -2,7 +2,6 @@
 use Rattle.base_util.specs.Section.{part}
 use Rattle.hyparview_state.specs.Unpack.{unpack, station_of}
 use Rattle.hyparview_state.proofs.Access.{of_packed}
-use Rattle.step_refill.proofs.Asking.{fine_after}
 use Rattle.step_active.proofs.Leaving.{refilled, place_of, removed, not_removed}
 use borrow.Author.Rules.{rules}
 use Rattle.step_active.proofs.remove_active.Goals as goal
@@ -11,27 +10,9 @@ pub position-i-requires : goal.position-i-requires
 unfolding part
 position-i-requires c = search (of_packed, rules)
 
-pub remove_active_by_index-a-requires-clause-st_len : goal.remove_active_by_index-a-requires-clause-st_len
-unfolding part unpack station_of
-remove_active_by_index-a-requires-clause-st_len c = search rules
-
-pub remove_active_by_index-a-requires-clause-given : goal.remove_active_by_index-a-requires-clause-given
-unfolding part unpack station_of
-remove_active_by_index-a-requires-clause-given c = search rules
-
 pub remove_active_by_index-a-requires-clause-i_in_bounds : goal.remove_active_by_index-a-requires-clause-i_in_bounds
 unfolding part unpack station_of
 remove_active_by_index-a-requires-clause-i_in_bounds c = search place_of
-
-pub remove_active_by_index-a-requires-clause-meets : goal.remove_active_by_index-a-requires-clause-meets
-unfolding part unpack station_of
-remove_active_by_index-a-requires-clause-meets c = search rules
-
-pub start_refill-requires-clause-st_len : goal.start_refill-requires-clause-st_len
-start_refill-requires-clause-st_len c = search (rules, c.clear_refused-b.auto, c.remove_active_by_index-a.auto, c.requires.st_len)
-
-pub start_refill-requires-clause-given : goal.start_refill-requires-clause-given
-start_refill-requires-clause-given c = fine_after _ _ _ _ _ _ c.remove_active_by_index-a.ensures.fine c.clear_refused-b.ensures
 
 pub returns-then-in_active : goal.returns-then-in_active
 unfolding part unpack station_of

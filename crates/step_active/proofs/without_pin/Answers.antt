@@ -9,14 +9,6 @@ pub copy_into-requires-clause-valid_set : goal.copy_into-requires-clause-valid_s
 unfolding part
 copy_into-requires-clause-valid_set c = search (of_packed, rules)
 
-pub copy_into-requires-clause-cap_le_working_places : goal.copy_into-requires-clause-cap_le_working_places
-unfolding part
-copy_into-requires-clause-cap_le_working_places c = search (of_packed, rules)
-
-pub copy_into-requires-clause-t_len : goal.copy_into-requires-clause-t_len
-unfolding part
-copy_into-requires-clause-t_len c = search (of_packed, rules)
-
 pub without_all-requires-clause-valid_set : goal.without_all-requires-clause-valid_set
 unfolding part
 without_all-requires-clause-valid_set c = search (of_packed, rules)

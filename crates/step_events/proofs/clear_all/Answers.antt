@@ -1,7 +1,6 @@
 -- Each call clears one section and leaves the others, so the five together are the station wiped.
 use Rattle.base_util.specs.Section.{part}
 use Rattle.step_events.proofs.Clearing.{wiped}
-use borrow.Author.Rules.{rules}
 use Rattle.step_events.proofs.clear_all.Goals as goal
 
 pub returns : goal.returns

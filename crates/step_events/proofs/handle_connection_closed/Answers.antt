@@ -1,7 +1,6 @@
 -- By cases: a neighbor is lost; any other peer loses its mark or its passive place, and where it was asked a refill follows.
 use Rattle.step_refill.proofs.Asking.{fine_after}
 use Rattle.step_events.proofs.Leaving.{closed_calm, neighbor_lost, asked_again, not_asked}
-use borrow.Author.Rules.{rules}
 use Rattle.step_events.proofs.handle_connection_closed.Goals as goal
 
 pub remove_active-requires-clause-given : goal.remove_active-requires-clause-given
@@ -13,9 +12,6 @@ remove_active-requires-clause-meets c = closed_calm _ _ _ _ _ c.drop_request-a.e
 pub returns-then-in_active : goal.returns-then-in_active
 returns-then-in_active c =
     neighbor_lost _ _ _ _ _ _ _ c.requires.given c.is_requested-requested.ensures c.drop_request-a.ensures c.in_active.ensures _ _ c.if-in_active.true c.remove_active.ensures
-
-pub refill_active_from_passive-requires-clause-given : goal.refill_active_from_passive-requires-clause-given
-refill_active_from_passive-requires-clause-given c = fine_after _ _ _ _ _ _ (fine_after _ _ _ _ _ _ c.requires.given c.drop_request-a.ensures) c.lose_passive-b.ensures
 
 pub returns-then-requested : goal.returns-then-requested
 returns-then-requested c =

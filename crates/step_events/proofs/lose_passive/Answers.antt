@@ -1,6 +1,5 @@
 -- By cases of the mark: a marked peer loses the mark alone, any other its place and its data.
 use Rattle.step_events.proofs.Leaving.{saved, lost}
-use borrow.Author.Rules.{rules}
 use Rattle.step_events.proofs.lose_passive.Goals as goal
 
 pub returns-then-is_marked : goal.returns-then-is_marked

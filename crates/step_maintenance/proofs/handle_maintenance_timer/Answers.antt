@@ -1,15 +1,12 @@
 -- The measure is what is left.
 use mathlib.Core.Path.{refl}
-use native.Mathlib.Omega.{arith}
 use Rattle.base_util.specs.Section.{part}
 use Rattle.spec_hyparview.specs.Run.{on}
 use Rattle.spec_hyparview.specs.Timers.{remember_all, maintain, handle_maintenance_timer, schedule_maintenance}
-use Rattle.hyparview_state.specs.Unpack.{long}
 use Rattle.hyparview_state.specs.Work.{work_of, Changes}
 use Rattle.hyparview_state.proofs.Access.{of_packed}
 use Rattle.hyparview_state.proofs.Bridge.{on_passed, still, then, seq}
 use Rattle.hyparview_state.proofs.Any.{then_tell_any}
-use Rattle.step_refill.proofs.Asking.{fine_after}
 use Rattle.step_maintenance.proofs.Counted.{renew_start, renew_packed, renew_below, renew_next, renew_end}
 use Rattle.step_maintenance.proofs.Passes.{words_as}
 use borrow.Author.Rules.{rules}
@@ -41,24 +38,9 @@ pub renew-requires-clause-valid_set : goal.renew-requires-clause-valid_set
 unfolding part
 renew-requires-clause-valid_set c = search (of_packed, renew_packed, rules)
 
-pub renew-requires-clause-le_most : goal.renew-requires-clause-le_most
-unfolding part
-renew-requires-clause-le_most c = (omega arith, omega arith)
-
 pub loop-i-preserved : goal.loop-i-preserved
 unfolding part
 loop-i-preserved c = search renew_next
-
-pub maintain-a-requires : goal.maintain-a-requires
-maintain-a-requires c =
-    let given = fine_after _ _ _ _ _ _ c.requires.given (remembered (goal.at.maintain-a-requires c).Joined-w-eq0) in record {
-      st_len = long given.ready.packed;
-      given = given;
-    }
-
-pub shape_of-st : goal.shape_of-st
-shape_of-st c =
-    omega (arith, c.maintain-a.auto.st, long (remembered (goal.at.shape_of-st c).Joined-w-eq0).packed, c.requires.st_len)
 
 pub returns : goal.returns
 unfolding handle_maintenance_timer schedule_maintenance

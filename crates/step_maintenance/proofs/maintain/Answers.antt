@@ -8,12 +8,12 @@ use Rattle.spec_hyparview.specs.Setters.{set_passes_alone}
 use Rattle.spec_hyparview.specs.Run.{on}
 use Rattle.spec_hyparview.specs.Timers.{count_short, pass_known, not_alone, maintain}
 use Rattle.work.specs.declared.Work.{Work}
-use Rattle.hyparview_state.specs.Unpack.{unpack, long}
+use Rattle.hyparview_state.specs.Unpack.{unpack}
 use Rattle.hyparview_state.specs.Work.{work_of, run, Changes, Fine, Does}
 use Rattle.hyparview_state.proofs.Access.{of_short}
 use Rattle.hyparview_state.proofs.Bridge.{on_passed}
 use Rattle.step_refill.proofs.Asking.{fine_after}
-use Rattle.step_maintenance.proofs.Counted.{alone_reset, short_refused, short_left, short_counted}
+use Rattle.step_maintenance.proofs.Counted.{alone_reset, short_refused, short_counted}
 use Rattle.step_maintenance.proofs.Passes.{refilled_anew, refill_due, refill_not_due, recovery_known, paused, passed_short, short_passed, enough_passed, recovers, neighbors_passed, none_known, maintained_alone, maintained, knows_some, words_as, alone_still}
 use Rattle.step_maintenance.proofs.maintain.Goals as goal
 use Rattle.step_maintenance.proofs.maintain.Goals.{Joined-w-eq0, After-end_recovery-a, Joined-b-eq0, then-w-eq0, then-b-eq0, else-w-eq0, else-b-eq0}
@@ -56,39 +56,13 @@ returns-then-alone-st c =
 pub end_recovery-a-requires : goal.end_recovery-a-requires
 end_recovery-a-requires c =
     let packed = (reset (goal.at.end_recovery-a-requires c).Joined-w-eq0).packed in record {
-      st_len = long packed;
       packed_state = packed;
     }
-
-pub start_refill-requires : goal.start_refill-requires
-start_refill-requires c =
-    let given = known (goal.at.start_refill-requires c).After-end_recovery-a in record {
-      st_len = long given.ready.packed;
-      given = given;
-    }
-
-pub shape_of-st-then-alone : goal.shape_of-st-then-alone
-shape_of-st-then-alone c =
-    omega (arith, c.start_refill.auto.st, long c.end_recovery-a.ensures.packed, c.requires.st_len)
 
 pub returns-then-alone : goal.returns-then-alone
 returns-then-alone c =
     let ended = (goal.at.returns-then-alone c).After-end_recovery-a in
     pass ended _ _ _ (recovers _ _ _ _ _ (known ended) _ _ _ (alone ended) c.if-alone.true c.start_refill.ensures)
-
-pub is_short-requires : goal.is_short-requires
-is_short-requires c =
-    let packed = c.end_recovery-a.ensures.packed in record {
-      st_len = long packed;
-      packed_state = packed;
-    }
-
-pub limit_of-requires : goal.limit_of-requires
-limit_of-requires c = long c.end_recovery-a.ensures.packed
-
-pub shape_of-st-then-is_recovery : goal.shape_of-st-then-is_recovery
-shape_of-st-then-is_recovery c =
-    omega (arith, long c.end_recovery-a.ensures.packed, c.requires.st_len)
 
 pub returns-then-is_recovery : goal.returns-then-is_recovery
 returns-then-is_recovery c =
@@ -99,20 +73,6 @@ returns-then-is_recovery c =
     (short_passed _ _ _ _ _ given _ _ _ c.is_short.ensures c.if-is_short.true
     (paused _ _ _ _ _ given (recovery_known _ _ _ c.limit_of.ensures c.is_recovery.ensures) c.if-is_recovery.true)))
 
-pub bounds-st-15 : goal.bounds-st-15
-bounds-st-15 c = omega (arith, long c.end_recovery-a.ensures.packed)
-
-pub overflow_add-st : goal.overflow_add-st
-overflow_add-st c =
-    record { fits = omega (arith, short_left _ _ _ c.end_recovery-a.ensures.packed c.require-b.ensures c.if-b-eq0.true) }
-
-pub bounds-st-15-then-b-eq0 : goal.bounds-st-15-then-b-eq0
-bounds-st-15-then-b-eq0 c = omega (arith, long c.end_recovery-a.ensures.packed)
-
-pub bounds-st-15-then-is_short : goal.bounds-st-15-then-is_short
-bounds-st-15-then-is_short c =
-    omega (arith, long (counted (goal.at.bounds-st-15-then-is_short c).Joined-b-eq0).packed)
-
 pub overflow_cast-st : goal.overflow_cast-st
 overflow_cast-st c =
     record { fits = omega (arith, of_short _ (counted (goal.at.overflow_cast-st c).Joined-b-eq0).packed) }
@@ -120,22 +80,8 @@ overflow_cast-st c =
 pub clear_refused-c-requires : goal.clear_refused-c-requires
 clear_refused-c-requires c =
     let packed = (counted (goal.at.clear_refused-c-requires c).Joined-b-eq0).packed in record {
-      st_len = long packed;
       packed_state = packed;
     }
-
-pub start_refill-requires-then-backoff_due : goal.start_refill-requires-then-backoff_due
-start_refill-requires-then-backoff_due c =
-    let there = goal.at.start_refill-requires-then-backoff_due c in
-    let tried = fine_after _ _ _ _ _ _ (known there.After-end_recovery-a) (counted there.Joined-b-eq0) in
-    let cleared = fine_after _ _ _ _ _ _ tried c.clear_refused-c.ensures in record {
-      st_len = long cleared.ready.packed;
-      given = cleared;
-    }
-
-pub shape_of-st-then-backoff_due : goal.shape_of-st-then-backoff_due
-shape_of-st-then-backoff_due c =
-    omega (arith, c.start_refill-then-backoff_due.auto.st, long c.clear_refused-c.ensures.packed, c.requires.st_len)
 
 pub returns-then-backoff_due : goal.returns-then-backoff_due
 returns-then-backoff_due c =
@@ -151,10 +97,6 @@ returns-then-backoff_due c =
     (refilled_anew _ _ _ _ _ _ _ _ _ _ (fine_after _ _ _ _ _ _ given counts) c.few_requests.ensures c.start_refill-then-backoff_due.ensures c.clear_refused-c.ensures))
     counts)))
 
-pub shape_of-st-then-is_short : goal.shape_of-st-then-is_short
-shape_of-st-then-is_short c =
-    omega (arith, long (counted (goal.at.shape_of-st-then-is_short c).Joined-b-eq0).packed, c.requires.st_len)
-
 pub returns-then-is_short : goal.returns-then-is_short
 returns-then-is_short c =
     let there = goal.at.returns-then-is_short c in
@@ -167,17 +109,6 @@ returns-then-is_short c =
     (passed_short _ _ _ _ _ given _ _ _ _ _ (recovery_known _ _ _ c.limit_of.ensures c.is_recovery.ensures) c.if-is_recovery.false
     (refill_not_due _ _ _ _ _ c.backoff_due.ensures (fine_after _ _ _ _ _ _ given counts) c.if-backoff_due.false)
     counts)))
-
-pub clear_refused-requires : goal.clear_refused-requires
-clear_refused-requires c =
-    let packed = c.end_recovery-a.ensures.packed in record {
-      st_len = long packed;
-      packed_state = packed;
-    }
-
-pub shape_of-st : goal.shape_of-st
-shape_of-st c =
-    omega (arith, long c.clear_refused.ensures.packed, c.requires.st_len)
 
 pub returns : goal.returns
 returns c =

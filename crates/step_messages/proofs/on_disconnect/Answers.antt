@@ -1,9 +1,8 @@
 -- Join, recent place and request of p go as one change; then by cases a neighbor, a live peer in the passive view or not, and one gone for good.
-use native.Mathlib.Omega.{arith}
 use Rattle.base_util.specs.Section.{part}
 use Rattle.spec_hyparview.specs.Run.{on}
 use Rattle.spec_hyparview.specs.Messages.{drop_join, drop_request, drop_recent, forget_recent}
-use Rattle.hyparview_state.specs.Unpack.{unpack, station_of, long}
+use Rattle.hyparview_state.specs.Unpack.{unpack, station_of}
 use Rattle.hyparview_state.specs.Work.{work_of, Changes}
 use Rattle.hyparview_state.proofs.Access.{of_packed}
 use Rattle.hyparview_state.proofs.Bridge.{on_done}
@@ -35,29 +34,15 @@ pub without-requires : goal.without-requires
 unfolding part
 without-requires c = search (of_packed, rules)
 
-pub drop_request-ended-requires-clause-st_len : goal.drop_request-ended-requires-clause-st_len
-drop_request-ended-requires-clause-st_len c = long (recent (goal.at.drop_request-ended-requires-clause-st_len c).Joined-alive-closed).packed
-
-pub drop_request-ended-requires-clause-packed_state : goal.drop_request-ended-requires-clause-packed_state
-drop_request-ended-requires-clause-packed_state c = (recent (goal.at.drop_request-ended-requires-clause-packed_state c).Joined-alive-closed).packed
-
-pub in_active-requires-clause-st_len : goal.in_active-requires-clause-st_len
-in_active-requires-clause-st_len c = long (ended (goal.at.in_active-requires-clause-st_len c).After-drop_request-ended).packed
-
-pub in_active-requires-clause-packed_state : goal.in_active-requires-clause-packed_state
-in_active-requires-clause-packed_state c = (ended (goal.at.in_active-requires-clause-packed_state c).After-drop_request-ended).packed
+pub drop_request-ended-requires : goal.drop_request-ended-requires
+drop_request-ended-requires c = record { packed_state = (recent (goal.at.drop_request-ended-requires c).Joined-alive-closed).packed }
 
 pub remove_active-requires : goal.remove_active-requires
 remove_active-requires c =
     let forgotten = ended (goal.at.remove_active-requires c).After-drop_request-ended in record {
-      st_len = long forgotten.packed;
       given = fine_after _ _ _ _ _ _ c.requires.given forgotten;
       meets = between_calm _ _ _ _ _ _ (ended_between _ _ _ _ _ _ forgotten _ _ _ c.requires.meets);
     }
-
-pub shape_of-st-then-in_active : goal.shape_of-st-then-in_active
-shape_of-st-then-in_active c =
-    omega (arith, c.remove_active.auto.st, long (ended (goal.at.shape_of-st-then-in_active c).After-drop_request-ended).packed, c.requires.st_len)
 
 pub returns-then-in_active : goal.returns-then-in_active
 returns-then-in_active c =
@@ -68,28 +53,16 @@ returns-then-in_active c =
 pub note_refusal-noted-requires : goal.note_refusal-noted-requires
 note_refusal-noted-requires c =
     let packed = (ended (goal.at.note_refusal-noted-requires c).After-drop_request-ended).packed in record {
-      st_len = long packed;
       packed_state = packed;
     }
-
-pub in_passive-requires-clause-st_len : goal.in_passive-requires-clause-st_len
-in_passive-requires-clause-st_len c = search (rules, long (ended (goal.at.in_passive-requires-clause-st_len c).After-drop_request-ended).packed)
-
-pub in_passive-requires-clause-packed_state : goal.in_passive-requires-clause-packed_state
-in_passive-requires-clause-packed_state c = c.note_refusal-noted.ensures.packed
 
 pub mark_alive-requires : goal.mark_alive-requires
 mark_alive-requires c =
     let forgotten = ended (goal.at.mark_alive-requires c).After-drop_request-ended in
     let markable = still_markable _ _ _ _ _ _ (between_mark _ _ _ _ _ _ _ _ (ended_between _ _ _ _ _ _ forgotten _ _ _ c.requires.meets)) c.note_refusal-noted.ensures in record {
-      st_len = search (rules, long (ended (goal.at.mark_alive-requires c).After-drop_request-ended).packed);
       packed_state = c.note_refusal-noted.ensures.packed;
       free_mark = mark_place _ _ _ _ c.in_passive.ensures c.if-in_passive.true markable;
     }
-
-pub shape_of-st-then-in_passive : goal.shape_of-st-then-in_passive
-shape_of-st-then-in_passive c =
-    search (rules, c.note_refusal-noted.auto, long (ended (goal.at.shape_of-st-then-in_passive c).After-drop_request-ended).packed, c.requires.st_len)
 
 pub returns-then-in_passive : goal.returns-then-in_passive
 returns-then-in_passive c =
@@ -97,10 +70,6 @@ returns-then-in_passive c =
     let marked = passive_marked _ _ _ c.in_passive.ensures _ c.if-in_passive.true c.mark_alive.ensures in
     disconnect_done _ _ _ _ _ _ forgotten _ _ _ c.requires.given c.is_requested-requested.ensures
     (other_lost _ _ _ _ _ _ _ _ _ c.in_active.ensures c.if-in_active.false (other_alive _ _ _ _ _ _ _ _ (fine_after _ _ _ _ _ _ c.requires.given forgotten) c.if-alive.true marked c.note_refusal-noted.ensures))
-
-pub shape_of-st-then-alive : goal.shape_of-st-then-alive
-shape_of-st-then-alive c =
-    omega (arith, long c.note_refusal-noted.ensures.packed, c.requires.st_len)
 
 pub returns-then-alive : goal.returns-then-alive
 returns-then-alive c =
@@ -112,20 +81,14 @@ returns-then-alive c =
 pub drop_passive-dropped-requires : goal.drop_passive-dropped-requires
 drop_passive-dropped-requires c =
     let packed = (ended (goal.at.drop_passive-dropped-requires c).After-drop_request-ended).packed in record {
-      st_len = long packed;
       packed_state = packed;
     }
 
 pub refill_active_from_passive-requires : goal.refill_active_from_passive-requires
 refill_active_from_passive-requires c =
     let forgotten = ended (goal.at.refill_active_from_passive-requires c).After-drop_request-ended in record {
-      st_len = search (rules, c.drop_passive-dropped.auto, long (ended (goal.at.refill_active_from_passive-requires c).After-drop_request-ended).packed);
       given = fine_after _ _ _ _ _ _ (fine_after _ _ _ _ _ _ c.requires.given forgotten) c.drop_passive-dropped.ensures;
     }
-
-pub shape_of-st-then-requested : goal.shape_of-st-then-requested
-shape_of-st-then-requested c =
-    search (rules, c.drop_passive-dropped.auto, long (ended (goal.at.shape_of-st-then-requested c).After-drop_request-ended).packed, c.requires.st_len)
 
 pub returns-then-requested : goal.returns-then-requested
 returns-then-requested c =
@@ -133,10 +96,6 @@ returns-then-requested c =
     let refilled = topic_refilled _ _ _ _ _ _ (fine_after _ _ _ _ _ _ c.requires.given forgotten) c.drop_passive-dropped.ensures _ _ c.if-requested.true c.refill_active_from_passive.ensures in
     disconnect_done _ _ _ _ _ _ forgotten _ _ _ c.requires.given c.is_requested-requested.ensures
     (other_lost _ _ _ _ _ _ _ _ _ c.in_active.ensures c.if-in_active.false (other_left _ _ _ _ _ _ _ _ c.if-alive.false refilled))
-
-pub shape_of-st : goal.shape_of-st
-shape_of-st c =
-    omega (arith, long c.drop_passive-dropped.ensures.packed, c.requires.st_len)
 
 pub returns : goal.returns
 returns c =

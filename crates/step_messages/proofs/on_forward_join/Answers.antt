@@ -1,5 +1,4 @@
 -- By cases: the walk ends here, its joiner was asked already, or it goes on to one of the others, or to 0 where there is none.
-use Rattle.step_sending.proofs.Told.{room_drawn}
 use Rattle.step_messages.proofs.Laws.{end_known, joiner_asked, walk_ended, walk_stopped, walk_goes_on, walked_on, join_on_none, join_on_one}
 use borrow.Author.Rules.{rules}
 use Rattle.step_messages.proofs.on_forward_join.Goals as goal
@@ -10,12 +9,6 @@ returns-then-in_active-expired c = search (walk_ended, joiner_asked, end_known)
 pub returns-then-is_requested : goal.returns-then-is_requested
 returns-then-is_requested c = search (walk_goes_on, walk_stopped, end_known)
 
-pub forward_join_to-requires-clause-written_in_bounds : goal.forward_join_to-requires-clause-written_in_bounds
-forward_join_to-requires-clause-written_in_bounds c = c.learn_joiner-learned.ensures.fine.written
-
-pub forward_join_to-requires-clause-valid_data : goal.forward_join_to-requires-clause-valid_data
-forward_join_to-requires-clause-valid_data c = c.requires.valid_data
-
 pub returns-then-k-eq0 : goal.returns-then-k-eq0
 returns-then-k-eq0 c =
     let ended = end_known _ _ _ _ _ _ c.in_active.ensures c.expired.ensures c.is_last_hop.ensures in
@@ -24,16 +17,6 @@ returns-then-k-eq0 c =
     (join_on_none _ _ _ _ _ _ _ _ _ c.learn_joiner-learned.ensures.fine c.count-k.ensures.0 c.next-left.ensures _ _ c.if-k-eq0.true c.forward_join_to.ensures)
     in
     walk_goes_on _ _ _ _ _ _ _ _ _ ended _ _ c.if-in_active-expired.false walked c.learn_joiner-learned.ensures
-
-pub forward_join_to-requires-2-clause-written_in_bounds : goal.forward_join_to-requires-2-clause-written_in_bounds
-forward_join_to-requires-2-clause-written_in_bounds c = (room_drawn _ _ _ _ _ c.learn_joiner-learned.ensures.fine c.draw_one_of-chosen.ensures.draws_any).written
-
-pub forward_join_to-requires-2-clause-valid_data : goal.forward_join_to-requires-2-clause-valid_data
-forward_join_to-requires-2-clause-valid_data c = c.requires.valid_data
-
-pub shape_of-st : goal.shape_of-st
-shape_of-st c =
-    search (rules, c.learn_joiner-learned.auto)
 
 pub shape_of-out : goal.shape_of-out
 shape_of-out c =

@@ -9,9 +9,6 @@ use Rattle.step_peers.proofs.Laws.{after_info, place_passive, one_more, not_ente
 use borrow.Author.Rules.{rules}
 use Rattle.step_peers.proofs.add_passive.Goals as goal
 
-pub make_room-t-requires-clause-given : goal.make_room-t-requires-clause-given
-make_room-t-requires-clause-given c = after_info _ _ _ _ _ _ _ c.requires.given c.insert_peer_info-a.ensures
-
 pub returns-then-t-ne0 : goal.returns-then-t-ne0
 returns-then-t-ne0 c =
     refused _ _ _ _ _ _ _ _ _ _ c.requires.given c.insert_peer_info-a.ensures c.is_newcomer.ensures _ _ _ c.if-is_newcomer.true c.make_room-t.ensures c.if-t-ne0.true

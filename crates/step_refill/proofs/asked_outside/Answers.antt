@@ -9,14 +9,6 @@ pub keys_into-requires-clause-valid_numbers : goal.keys_into-requires-clause-val
 unfolding part
 keys_into-requires-clause-valid_numbers c = search (of_packed, rules)
 
-pub keys_into-requires-clause-cap_le_working_places : goal.keys_into-requires-clause-cap_le_working_places
-unfolding part
-keys_into-requires-clause-cap_le_working_places c = search (of_packed, rules)
-
-pub keys_into-requires-clause-t_len : goal.keys_into-requires-clause-t_len
-unfolding part
-keys_into-requires-clause-t_len c = search (of_packed, rules)
-
 pub without_all-requires-clause-valid_set : goal.without_all-requires-clause-valid_set
 unfolding part
 without_all-requires-clause-valid_set c = search (of_packed, rules)

@@ -1,10 +1,8 @@
 -- Each call takes one more list out of the copy of the passive view; by cases of having a neighbor the refused peers go too, or stay in.
-use borrow.Author.Tests.{eq-eqb, ne_eqb}
 use Rattle.base_util.specs.Section.{part}
 use Rattle.base_util.proofs.Sets.{set_inside, set_column}
 use Rattle.hyparview_state.specs.Unpack.{unpack, station_of}
 use Rattle.hyparview_state.proofs.Access.{of_packed}
-use Rattle.hyparview_state.proofs.Counts.{alone}
 use Rattle.step_refill.proofs.Asking.{left_list, left_of, left_by, candidates_alone, candidates_else}
 use borrow.Author.Rules.{rules}
 use Rattle.step_refill.proofs.candidates.Goals as goal
@@ -12,14 +10,6 @@ use Rattle.step_refill.proofs.candidates.Goals as goal
 pub copy_into-requires-clause-valid_set : goal.copy_into-requires-clause-valid_set
 unfolding part
 copy_into-requires-clause-valid_set c = search (of_packed, rules)
-
-pub copy_into-requires-clause-cap_le_working_places : goal.copy_into-requires-clause-cap_le_working_places
-unfolding part
-copy_into-requires-clause-cap_le_working_places c = search (of_packed, rules)
-
-pub copy_into-requires-clause-t_len : goal.copy_into-requires-clause-t_len
-unfolding part
-copy_into-requires-clause-t_len c = search (of_packed, rules)
 
 pub slice_bounds-without_all_in-end-2 : goal.slice_bounds-without_all_in-end-2
 unfolding part
@@ -33,14 +23,6 @@ pub keys_into-requires-clause-valid_numbers : goal.keys_into-requires-clause-val
 unfolding part
 keys_into-requires-clause-valid_numbers c = search (of_packed, rules)
 
-pub keys_into-requires-clause-cap_le_working_places : goal.keys_into-requires-clause-cap_le_working_places
-unfolding part
-keys_into-requires-clause-cap_le_working_places c = search (of_packed, rules)
-
-pub keys_into-requires-clause-t_len : goal.keys_into-requires-clause-t_len
-unfolding part
-keys_into-requires-clause-t_len c = search (of_packed, rules)
-
 pub without_all-requires : goal.without_all-requires
 unfolding part
 without_all-requires c =
@@ -50,14 +32,14 @@ without_all-requires c =
       valid_set_2 = c.keys_into.ensures.valid;
     }
 
-pub returns-then-st-eq0 : goal.returns-then-st-eq0
+pub returns-then-is_alone : goal.returns-then-is_alone
 unfolding unpack station_of part
-returns-then-st-eq0 c =
+returns-then-is_alone c =
     let copied = c.copy_into.ensures in
     let xs = c.args.st.now in
     let others = left_list _ _ _ _ copied.valid c.without_all_in-m.ensures.changes_column c.without_all_in-m.ensures.value.0 c.without_all_in-m.ensures.value.1 in
     let free = left_by _ _ _ _ c.without_all.ensures c.keys_into.ensures in
-    candidates_alone xs _ _ _ _ (left_of _ _ _ _ others copied) free (alone xs c.requires.packed_state) (eq-eqb _ _ c.if-st-eq0.true)
+    candidates_alone xs _ _ _ _ (left_of _ _ _ _ others copied) free c.is_alone.ensures c.if-is_alone.true
 
 pub without_all-requires-2-clause-valid_set : goal.without_all-requires-2-clause-valid_set
 unfolding part
@@ -74,4 +56,4 @@ returns c =
     let xs = c.args.st.now in
     let others = left_list _ _ _ _ copied.valid c.without_all_in-m.ensures.changes_column c.without_all_in-m.ensures.value.0 c.without_all_in-m.ensures.value.1 in
     let free = left_by _ _ _ _ c.without_all.ensures c.keys_into.ensures in
-    candidates_else xs _ _ _ _ (left_of _ _ _ _ others copied) free (alone xs c.requires.packed_state) _ (ne_eqb _ _ c.if-st-eq0.false) c.without_all-2.ensures
+    candidates_else xs _ _ _ _ (left_of _ _ _ _ others copied) free c.is_alone.ensures _ c.if-is_alone.false c.without_all-2.ensures

@@ -2,8 +2,8 @@
 use Rattle.step_refill.proofs.Limits.{ended, not_ended}
 use Rattle.step_refill.proofs.end_recovery.Goals as goal
 
-pub returns-then-w-st : goal.returns-then-w-st
-returns-then-w-st c = search ended
+pub returns-then-w-is_recovery : goal.returns-then-w-is_recovery
+returns-then-w-is_recovery c = ended _ _ c.requires.packed_state _ c.asked_outside.ensures _ _ c.limit_of-limit.ensures c.is_recovery.ensures _ c.if-w-is_recovery.true c.keep_limit.ensures
 
-pub returns-else-w-st : goal.returns-else-w-st
-returns-else-w-st c = search not_ended
+pub returns-else-w-is_recovery : goal.returns-else-w-is_recovery
+returns-else-w-is_recovery c = not_ended _ _ c.requires.packed_state _ c.asked_outside.ensures _ _ c.limit_of-limit.ensures c.is_recovery.ensures c.if-w-is_recovery.false

@@ -7,7 +7,7 @@ use native.Mathlib.Omega.{arith}
 use Rattle.base_util.specs.Section.{part}
 use Rattle.spec_hyparview.specs.Run.{on}
 use Rattle.spec_hyparview.specs.Sending.{note_request}
-use Rattle.hyparview_state.specs.Unpack.{unpack, station_of, long}
+use Rattle.hyparview_state.specs.Unpack.{unpack, station_of}
 use Rattle.hyparview_state.specs.Work.{work_of, Changes, Room}
 use Rattle.hyparview_state.proofs.Access.{of_packed}
 use Rattle.hyparview_state.proofs.Bridge.{on_done}
@@ -16,66 +16,22 @@ use Rattle.step_sending.proofs.Told.{asked, requests_counted, number_left, place
 use borrow.Author.Rules.{rules}
 use Rattle.hyparview_state.specs.Layout.{requests_at, requests_size, next_neighbor_request_at}
 use Rattle.step_sending.proofs.send_neighbor.Goals as goal
+use Rattle.step_sending.proofs.send_neighbor.Goals.{After-insert_number}
 
 -- The words after the request was noted.
-abbrev after : goal.After-flag_if-flags → List ℕ
+abbrev after : After-insert_number → List ℕ
 after c =
     let xs = c.args.st.now in
     set (put_mid requests_at requests_size xs c.insert_number.new.m) next_neighbor_request_at (get_or xs next_neighbor_request_at 0 + 1)
 
-request_noted : (c : goal.After-flag_if-flags) → Changes (on (note_request c.args.p)) (work_of c.require-b.result c.args.st.now) (work_of c.require-b.result (after c))
+request_noted : (c : After-insert_number) → Changes (on (note_request c.args.p)) (work_of c.require-b.result c.args.st.now) (work_of c.require-b.result (after c))
 unfolding note_request unpack station_of part
 request_noted c = on_done _ c.requires.given_room.packed _ _ c.if-b-ne0.false (λ b. put_next_request _ (put_requests c.insert_number.ensures b))
 
 -- What the Neighbor is told with.
-room : (c : goal.After-flag_if-flags) → Room (work_of c.require-b.result (after c)) c.args.out.now
+room : (c : After-insert_number) → Room (work_of c.require-b.result (after c)) c.args.out.now
 room c =
     noted_room _ _ _ _ _ c.requires.given_room.packed c.require-a.ensures (requests_counted _ c.requires.given_room.packed) c.require-b.ensures _ _ (request_noted c) _ c.requires.given_room
-
--- The words after_2 the request was noted.
-abbrev after_2 : goal.After-send_node-arg-1 → List ℕ
-after_2 c =
-    let xs = c.args.st.now in
-    set (put_mid requests_at requests_size xs c.insert_number.new.m) next_neighbor_request_at (get_or xs next_neighbor_request_at 0 + 1)
-
-request_noted_2 : (c : goal.After-send_node-arg-1) → Changes (on (note_request c.args.p)) (work_of c.require-b.result c.args.st.now) (work_of c.require-b.result (after_2 c))
-unfolding note_request unpack station_of part
-request_noted_2 c = on_done _ c.requires.given_room.packed _ _ c.if-b-ne0.false (λ b. put_next_request _ (put_requests c.insert_number.ensures b))
-
--- What the Neighbor is told with.
-room_2 : (c : goal.After-send_node-arg-1) → Room (work_of c.require-b.result (after_2 c)) c.args.out.now
-room_2 c =
-    noted_room _ _ _ _ _ c.requires.given_room.packed c.require-a.ensures (requests_counted _ c.requires.given_room.packed) c.require-b.ensures _ _ (request_noted_2 c) _ c.requires.given_room
-
--- The words after_3 the request was noted.
-abbrev after_3 : goal.After-slice_known-7-1-unread → List ℕ
-after_3 c =
-    let xs = c.args.st.now in
-    set (put_mid requests_at requests_size xs c.insert_number.new.m) next_neighbor_request_at (get_or xs next_neighbor_request_at 0 + 1)
-
-request_noted_3 : (c : goal.After-slice_known-7-1-unread) → Changes (on (note_request c.args.p)) (work_of c.require-b.result c.args.st.now) (work_of c.require-b.result (after_3 c))
-unfolding note_request unpack station_of part
-request_noted_3 c = on_done _ c.requires.given_room.packed _ _ c.if-b-ne0.false (λ b. put_next_request _ (put_requests c.insert_number.ensures b))
-
--- What the Neighbor is told with.
-room_3 : (c : goal.After-slice_known-7-1-unread) → Room (work_of c.require-b.result (after_3 c)) c.args.out.now
-room_3 c =
-    noted_room _ _ _ _ _ c.requires.given_room.packed c.require-a.ensures (requests_counted _ c.requires.given_room.packed) c.require-b.ensures _ _ (request_noted_3 c) _ c.requires.given_room
-
--- The words after_4 the request was noted.
-abbrev after_4 : goal.After-slice_known-8-1 → List ℕ
-after_4 c =
-    let xs = c.args.st.now in
-    set (put_mid requests_at requests_size xs c.insert_number.new.m) next_neighbor_request_at (get_or xs next_neighbor_request_at 0 + 1)
-
-request_noted_4 : (c : goal.After-slice_known-8-1) → Changes (on (note_request c.args.p)) (work_of c.require-b.result c.args.st.now) (work_of c.require-b.result (after_4 c))
-unfolding note_request unpack station_of part
-request_noted_4 c = on_done _ c.requires.given_room.packed _ _ c.if-b-ne0.false (λ b. put_next_request _ (put_requests c.insert_number.ensures b))
-
--- What the Neighbor is told with.
-room_4 : (c : goal.After-slice_known-8-1) → Room (work_of c.require-b.result (after_4 c)) c.args.out.now
-room_4 c =
-    noted_room _ _ _ _ _ c.requires.given_room.packed c.require-a.ensures (requests_counted _ c.requires.given_room.packed) c.require-b.ensures _ _ (request_noted_4 c) _ c.requires.given_room
 
 pub returns-then-is_requested : goal.returns-then-is_requested
 returns-then-is_requested c = search asked
@@ -99,24 +55,14 @@ unfolding part
 overflow_add-st c =
     record { fits = omega (arith, number_left _ _ _ _ _ c.requires.given_room.packed c.require-a.ensures (requests_counted _ c.requires.given_room.packed) c.require-b.ensures c.if-b-ne0.false) }
 
-pub own_data-d-requires-clause-st_len : goal.own_data-d-requires-clause-st_len
-own_data-d-requires-clause-st_len c = long (room c).packed
-
-pub own_data-d-requires-clause-packed_state : goal.own_data-d-requires-clause-packed_state
-own_data-d-requires-clause-packed_state c = (room c).packed
+pub own_data-data-requires : goal.own_data-data-requires
+own_data-data-requires c = record { packed_state = (room (goal.at.own_data-data-requires c).After-insert_number).packed }
 
 pub send_node-c-requires : goal.send_node-c-requires
-send_node-c-requires c =
-    let told = room_2 c in record {
-      written_in_bounds = told.written;
-      valid_data = search (of_packed, told.packed, c.own_data-d.ensures);
-    }
-
-pub bounds-st-11 : goal.bounds-st-11
-bounds-st-11 c = omega (arith, long (room_3 c).packed)
+send_node-c-requires c = (room (goal.at.send_node-c-requires c).After-insert_number).written
 
 pub returns : goal.returns
 returns c =
-    neighbor_sent _ _ _ _ _ c.requires.given_room.packed c.require-a.ensures (requests_counted _ c.requires.given_room.packed) c.require-b.ensures _ _ (request_noted_4 c)
+    neighbor_sent _ _ _ _ _ c.requires.given_room.packed c.require-a.ensures (requests_counted _ c.requires.given_room.packed) c.require-b.ensures _ _ (request_noted (goal.at.returns c).After-insert_number)
     _ _ _ _ _ c.requires.given_room c.is_requested.ensures c.if-is_requested.false
-    (request_told _ _ _ _ _ _ _ _ _ _ _ _ (room_4 c) c.flag_if-flags.ensures c.own_data-d.ensures c.send_node-c.ensures c.schedule.ensures)
+    (request_told _ _ _ _ _ _ _ _ _ _ _ _ (room (goal.at.returns c).After-insert_number) c.flag_if-flags.ensures c.own_data-data.ensures c.send_node-c.ensures c.schedule.ensures)

@@ -1,4 +1,4 @@
--- What the nodes to come make of the work so far is the whole. The measure is what is left.
+-- What the nodes to come make of the work so far is the whole.
 use Prim.Native.Nat.{ℕ, ◌+◌, ◌-◌, ◌≤◌, ◌<◌}
 use mathlib.Core.Path.{◌≡◌, refl, sym, ap, ◌∙◌}
 use mathlib.Core.Bool.{Bool, true, false, ◌||◌}
@@ -10,29 +10,17 @@ use Rattle.base_peer.specs.Data.{Node}
 use Rattle.base_peer.specs.Held.{data_in, node_in}
 use Rattle.base_peer.specs.declared.PeerInfo.{PeerInfo}
 use Rattle.record.specs.Read.{node_at, nodes_of}
-use Rattle.record.specs.Answers.{HoldsNode}
 use Rattle.spec_hyparview.specs.Run.{Run}
 use Rattle.spec_hyparview.specs.Peers.{is_newcomer, add_passive, add_nodes, any_new}
 use Rattle.work.specs.declared.Work.{Work}
 use Rattle.hyparview_state.specs.Unpack.{unpack}
-use Rattle.hyparview_state.specs.Work.{work_of, run, Fine, Does}
+use Rattle.hyparview_state.specs.Work.{work_of, run, Does}
 use Rattle.hyparview_state.proofs.Bridge.{at_run}
 use Rattle.step_peers.specs.declared.Added.{Added}
 use Rattle.step_peers.specs.Answer.{Adds}
-use Rattle.step_shuffling.proofs.Nodes.{nodes_from, nodes_start, nodes_end, or_more}
-use borrow.Author.Rules.{rules}
+use Rattle.step_shuffling.proofs.Nodes.{nodes_from, nodes_end, or_more}
 use Rattle.step_shuffling.proofs.add_nodes.Invariants.{Adding}
 use Rattle.step_shuffling.proofs.add_nodes.Goals as goal
-
-start : (xs ds out b : List ℕ) (n : ℕ) (w : Work) → Fine (work_of w xs) ds out → Adding xs ds out b n w xs out w false 0
-start xs ds out b n w v = record {
-  fine = v;
-  low = omega arith;
-  long = refl;
-  len = refl;
-  work = ap (λ (l : List Node). add_nodes l (run (work_of w xs) ds out)) (nodes_start b n);
-  news = ap (λ (l : List Node). any_new l (run (work_of w xs) ds out)) (nodes_start b n);
-}
 
 add_more : (m x : Node) (l : List Node) (g h : Run) → x ≡ m → h ≡ add_passive x.id x.data_of g → add_nodes (m ∷ l) g ≡ add_nodes l h
 unfolding add_nodes
@@ -47,20 +35,19 @@ new_more m x l g h f t e q k =
     ∙ or_more f t (any_new l h)
 
 module _ (xs ds out₀ b : List ℕ) (n : ℕ) (w : Work) (ys out : List ℕ) (a : Work) (fresh : Bool) (i : ℕ) (v : Adding xs ds out₀ b n w ys out a fresh i) where
-  next : (x : PeerInfo) (t : Bool) (m : Added) (zs o : List ℕ) (y : Option ℕ) → i < n → HoldsNode x (node_at b i) → t ≡ is_newcomer x.id (unpack ys)
-      → Adds m zs ds o (add_passive x.id (data_in x.data) (run (work_of a ys) ds out)) y → length zs ≡ length ys → length o ≡ length out → Adding xs ds out₀ b n w zs o m.work (fresh || t) (i + 1)
+  next : (x : PeerInfo) (t : Bool) (m : Added) (zs o : List ℕ) (y : Option ℕ) → i < n → node_in x ≡ node_at b i → t ≡ is_newcomer x.id (unpack ys)
+      → Adds m zs ds o (add_passive x.id (data_in x.data) (run (work_of a ys) ds out)) y → length o ≡ length out → Adding xs ds out₀ b n w zs o m.work (fresh || t) (i + 1)
   unfolding node_in
-  next x t m zs o y h k e d l q = record {
+  next x t m zs o y h k e d q = record {
     fine = d.does.fine;
     low = omega arith;
-    long = l ∙ v.long;
     len = q ∙ v.len;
     work =
         v.work ∙ ap (λ (l : List Node). add_nodes l (run (work_of a ys) ds out)) (nodes_from b i n h)
-        ∙ add_more (node_at b i) (node_in x) (nodes_of b (i + 1) (n - (i + 1))) (run (work_of a ys) ds out) (run (work_of m.work zs) ds o) k.holds d.does.same;
+        ∙ add_more (node_at b i) (node_in x) (nodes_of b (i + 1) (n - (i + 1))) (run (work_of a ys) ds out) (run (work_of m.work zs) ds o) k d.does.same;
     news =
         v.news ∙ ap (λ (l : List Node). fresh || any_new l (run (work_of a ys) ds out)) (nodes_from b i n h)
-        ∙ new_more (node_at b i) (node_in x) (nodes_of b (i + 1) (n - (i + 1))) (run (work_of a ys) ds out) (run (work_of m.work zs) ds o) fresh t k.holds (e ∙ at_run (work_of a ys) ds out (is_newcomer x.id)) d.does.same;
+        ∙ new_more (node_at b i) (node_in x) (nodes_of b (i + 1) (n - (i + 1))) (run (work_of a ys) ds out) (run (work_of m.work zs) ds o) fresh t k (e ∙ at_run (work_of a ys) ds out (is_newcomer x.id)) d.does.same;
   }
 
   none_more : (f : Bool) → (f || false) ≡ f
@@ -74,9 +61,6 @@ module _ (xs ds out₀ b : List ℕ) (n : ℕ) (w : Work) (ys out : List ℕ) (a
   end-news : n ≤ i → fresh ≡ any_new (nodes_of b 0 n) (run (work_of w xs) ds out₀)
   unfolding any_new
   end-news h = sym (v.news ∙ ap (λ (l : List Node). fresh || any_new l (run (work_of a ys) ds out)) (nodes_end b i n h) ∙ none_more fresh)
-
-pub loop-i-init : goal.loop-i-init
-loop-i-init c = search (start, rules)
 
 pub loop-i-preserved : goal.loop-i-preserved
 loop-i-preserved c = search next

@@ -3,9 +3,6 @@ use Rattle.step_shuffling.proofs.Nodes.{few_nodes}
 use Rattle.step_shuffling.proofs.Laws.{answers_known, answered, shuffle_answered, shuffle_forwarded}
 use Rattle.step_shuffling.proofs.on_shuffle.Goals as goal
 
-pub send_shuffle_reply-requires-clause-given : goal.send_shuffle_reply-requires-clause-given
-send_shuffle_reply-requires-clause-given c = c.add_nodes-t.ensures.makes.fine
-
 pub send_shuffle_reply-requires-clause-len_le_most_nodes : goal.send_shuffle_reply-requires-clause-len_le_most_nodes
 send_shuffle_reply-requires-clause-len_le_most_nodes c = few_nodes _ _ c.requires.b_value c.requires.n_value
 

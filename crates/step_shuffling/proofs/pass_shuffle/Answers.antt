@@ -1,15 +1,14 @@
 -- The copy without the two peers is the definition's list of others; by cases it is empty, or one drawn from it is sent the nodes.
 use Rattle.base_util.specs.Section.{part}
 use Rattle.hyparview_state.proofs.Access.{of_packed}
-use Rattle.step_sending.proofs.Told.{room_drawn}
 use Rattle.step_refill.proofs.Asking.{some_there}
 use Rattle.step_shuffling.proofs.Laws.{pair_valid, others_are, shuffle_kept, shuffle_on, passed_on}
 use borrow.Author.Rules.{rules}
 use Rattle.step_shuffling.proofs.pass_shuffle.Goals as goal
 
-pub copy_into-requires : goal.copy_into-requires
+pub copy_into-requires-clause-valid_set : goal.copy_into-requires-clause-valid_set
 unfolding part
-copy_into-requires c = search (of_packed, rules)
+copy_into-requires-clause-valid_set c = search (of_packed, rules)
 
 pub without_all-requires-clause-valid_set_2 : goal.without_all-requires-clause-valid_set_2
 without_all-requires-clause-valid_set_2 c = search pair_valid
@@ -22,12 +21,6 @@ returns-then-is_empty c =
 
 pub draw_one_of-t-requires-clause-n_nonzero : goal.draw_one_of-t-requires-clause-n_nonzero
 draw_one_of-t-requires-clause-n_nonzero c = some_there _ _ _ c.count.ensures.0 c.is_empty.ensures c.if-is_empty.false
-
-pub send_nodes-requires-clause-written_in_bounds : goal.send_nodes-requires-clause-written_in_bounds
-send_nodes-requires-clause-written_in_bounds c = (room_drawn _ _ _ _ _ c.requires.given c.draw_one_of-t.ensures.draws_any).written
-
-pub send_nodes-requires-clause-valid_nodes : goal.send_nodes-requires-clause-valid_nodes
-send_nodes-requires-clause-valid_nodes c = c.event_nodes.ensures.valid
 
 pub returns : goal.returns
 unfolding part

@@ -2,7 +2,7 @@
 use native.Mathlib.Omega.{arith}
 use Rattle.base_util.specs.Section.{part}
 use Rattle.hyparview_state.specs.Layout.{shuffle_active_view_count, shuffle_passive_view_count}
-use Rattle.hyparview_state.proofs.Access.{of_packed, of_own, of_active, of_passive}
+use Rattle.hyparview_state.proofs.Access.{of_packed, of_active, of_passive}
 use Rattle.step_sending.proofs.Sets.{lent_count, lent_few}
 use Rattle.step_sending.proofs.Told.{fine_drawn, room_of}
 use Rattle.step_timers.proofs.Shuffles.{place_named, walk_fits, shuffle_told, peers_drawn, peers_are, few_active, both_fit, all_fit, passive_done, with_done, none_asked, one_asked}
@@ -50,9 +50,6 @@ peer_infos-named-requires-clause-packed_state c = c.requires.given.ready.packed
 pub peer_infos-named-requires-clause-ids_len_bound : goal.peer_infos-named-requires-clause-ids_len_bound
 peer_infos-named-requires-clause-ids_len_bound c = lent_few _ _ c.append.ensures.valid c.count-n.ensures.0
 
-pub own_data-own-requires-clause-packed_state : goal.own_data-own-requires-clause-packed_state
-own_data-own-requires-clause-packed_state c = c.requires.given.ready.packed
-
 pub overflow_cast-ttl : goal.overflow_cast-ttl
 overflow_cast-ttl c = record { fits = omega (arith, walk_fits _ c.requires.given.ready.packed) }
 
@@ -62,16 +59,11 @@ push-requires c =
     let active = peers_are c.draw_one_of-chosen.result.work c.shuffle_and_cap-a.result c.args.draws.now _ _ _ _ c.copy_into.ensures c.without.ensures _ (shuffle_active_view_count c.args.st.now) c.shuffle_and_cap-a.ensures.changes_set in
     let passive = peers_are c.shuffle_and_cap-a.result c.shuffle_and_cap-b.result c.args.draws.now _ _ _ _ c.copy_into-2.ensures c.without-2.ensures _ (shuffle_passive_view_count c.args.st.now) c.shuffle_and_cap-b.ensures.changes_set in
     let packed = c.requires.given.ready.packed in
-    let named = c.peer_infos-named.ensures in
-    let few = all_fit _ packed _ _ _ _ passive (few_active _ packed _ _ active) c.append.ensures in record {
-      valid_nodes = named.valid;
-      len_lt_most_nodes = place_named _ _ _ _ c.append.ensures.valid c.count-n.ensures.0 few named;
-      valid_data = of_own _ packed _ c.own_data-own.ensures;
-    }
+    place_named _ _ _ _ c.append.ensures.valid c.count-n.ensures.0 (all_fit _ packed _ _ _ _ passive (few_active _ packed _ _ active) c.append.ensures) c.peer_infos-named.ensures
 
-pub send_nodes-requires-clause-written_in_bounds : goal.send_nodes-requires-clause-written_in_bounds
+pub send_nodes-requires : goal.send_nodes-requires
 unfolding part
-send_nodes-requires-clause-written_in_bounds c =
+send_nodes-requires c =
     let active_drawn = peers_drawn _ _ _ _ _ _ _ c.copy_into.ensures c.without.ensures c.shuffle_and_cap-a.ensures.draws_any in
     let passive_drawn = peers_drawn _ _ _ _ _ _ _ c.copy_into-2.ensures c.without-2.ensures c.shuffle_and_cap-b.ensures.draws_any in
     let chosen = fine_drawn _ _ _ _ _ c.requires.given c.draw_one_of-chosen.ensures.draws_any in

@@ -1,31 +1,22 @@
--- By cases: another kind, a count with room, and a count at its last value, which stays.
-use Prim.Native.Nat.{ℕ, ◌+◌, ◌≤◌, ◌<◌}
+-- Nothing or one is added, as far as the last value.
+use Prim.Native.Nat.{ℕ, min, ◌+◌, ◌≤◌}
 use mathlib.Core.Path.{◌≡◌}
 use mathlib.Core.Bool.{Bool, true, false}
 use native.Mathlib.Omega.{arith}
-use borrow.Author.Rules.{rules}
-use borrow.Author.Tests.{lt-ltb, le-ltb}
+use lib.Dec.{ltb}
+use mir.Val.{bool_byte}
+use borrow.Author.Tests.{ltb-true, ltb-false}
 use Rattle.base_lists.specs.Lists.{choose}
+use Rattle.base_lists.proofs.Choice.{split}
 use Rattle.tally.specs.Counts.{top, counted}
 use Rattle.tally.proofs.counted.Goals as goal
 
-other : (test : Bool) (n : ℕ) → test ≡ false → n ≡ counted test n
+added : (test : Bool) (n : ℕ) → n ≤ top → min (n + bool_byte test) top ≡ counted test n
 unfolding counted choose
-other test n e = rw e
-
-one : (test : Bool) (n : ℕ) → test ≡ true → n < top → n + 1 ≡ counted test n
-unfolding counted choose
-one test n e h = rw (e, lt-ltb n top h)
-
-full : (test : Bool) (n : ℕ) → test ≡ true → top ≤ n → n ≡ counted test n
-unfolding counted choose
-full test n e h = rw (e, le-ltb n top h)
-
-pub returns-then-n-lt-TOP : goal.returns-then-n-lt-TOP
-returns-then-n-lt-TOP c = one _ _ (search rules) (omega arith)
-
-pub returns-then-test : goal.returns-then-test
-returns-then-test c = full _ _ (search rules) (omega arith)
+added false n h = omega arith
+added true n h =
+    split (ltb n top) (λ t. let l = ltb-true n top t in rw t (omega (arith, l)))
+    (λ t. let l = ltb-false n top t in rw t (omega (arith, l)))
 
 pub returns : goal.returns
-returns c = search other
+returns c = rw (c.saturating_add.ensures, c.from.ensures) (added c.args.test c.args.n (omega arith))

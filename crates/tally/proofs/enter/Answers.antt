@@ -1,7 +1,6 @@
 -- By cases of the record's kind: a message is counted, and any other record leaves the tally as it was.
 use Prim.Native.Nat.{ℕ}
 use mathlib.Core.Path.{◌≡◌}
-use borrow.Author.Rules.{rules}
 use borrow.Author.Tests.{eq-eqb, ne_eqb}
 use Rattle.base_lists.specs.Lists.{choose}
 use Rattle.tally.specs.declared.Tally.{Tally}

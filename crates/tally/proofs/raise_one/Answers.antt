@@ -1,5 +1,4 @@
 -- Each of the six counts is what `counted` gives, and together they are the definition's record.
-use borrow.Author.Rules.{rules}
 use Rattle.tally.specs.Counts.{raise_one}
 use Rattle.tally.proofs.raise_one.Goals as goal
 

@@ -6,5 +6,5 @@ use Rattle.test_station.proofs.show_listing.Goals as goal
 pub slice_bounds-write_all-end : goal.slice_bounds-write_all-end
 slice_bounds-write_all-end c = search (shown_within, rules)
 
-pub slice_bounds-write_all-end-in-Bytes : goal.slice_bounds-write_all-end-in-Bytes
-slice_bounds-write_all-end-in-Bytes c = search (shown_counted, rules)
+pub slice_bounds-write_all-end-in-Some : goal.slice_bounds-write_all-end-in-Some
+slice_bounds-write_all-end-in-Some c = search (shown_counted, rules)

@@ -1,15 +1,15 @@
--- By cases: fewer bytes than that, a record, or none, each as the definition chooses.
-use Rattle.timer_events.proofs.Inserting.{short_start, read_start, no_record, part_long}
+-- By cases: fewer bytes than that, none, or a record, each as the definition chooses.
+use Rattle.std.proofs.Common.{arith}
+use Rattle.timer_events.proofs.Inserting.{short_start, read_there, read_start, no_record}
 use Rattle.timer_events.proofs.schedule_of.Goals as goal
 
-pub returns-then-b-n : goal.returns-then-b-n
-returns-then-b-n c = search short_start
+pub returns-in_err-get : goal.returns-in_err-get
+returns-in_err-get c = let h = c.in_err-get.ensures.lookup in rw c.from_residual.ensures (short_start _ _ (omega (arith, h.0)))
 
-pub slice_bounds-read-end : goal.slice_bounds-read-end
-slice_bounds-read-end c = search part_long
+pub returns-in_err-h : goal.returns-in_err-h
+returns-in_err-h c =
+    rw c.from_residual-in_err-h.ensures (no_record _ _ c.read.result c.in_ok-get.ensures.lookup.0.1 (read_there _ _ _ _ c.in_ok-get.ensures.lookup.0.2 c.read.ensures) c.in_err-h.was)
 
-pub returns-in-Record : goal.returns-in-Record
-returns-in-Record c = search read_start
-
-pub returns-in-Malformed : goal.returns-in-Malformed
-returns-in-Malformed c = search no_record
+pub returns : goal.returns
+returns c =
+    read_start _ _ _ c.read.result _ c.in_ok-get.ensures.lookup.0.1 (read_there _ _ _ _ c.in_ok-get.ensures.lookup.0.2 c.read.ensures) c.in_ok-h.was c.from.ensures

@@ -5,8 +5,8 @@ use Rattle.timer_map.proofs.find_due.Goals as goal
 pub returns-then-n-eq0 : goal.returns-then-n-eq0
 returns-then-n-eq0 c = search due_empty
 
-pub returns-then-limit-e : goal.returns-then-limit-e
-returns-then-limit-e c = search due_later
+pub returns-then-limit-entry : goal.returns-then-limit-entry
+returns-then-limit-entry c = due_later _ _ c.requires _ _ c.soonest-place.ensures c.entry_at-entry.ensures c.if-limit-entry.true
 
 pub returns : goal.returns
-returns c = search due_found
+returns c = due_found _ _ c.requires _ _ c.soonest-place.ensures c.entry_at-entry.ensures c.if-limit-entry.false

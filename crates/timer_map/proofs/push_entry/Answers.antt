@@ -1,10 +1,7 @@
 -- A row stored behind the last and a greater count pack the entries with one more at the end, by `push_law`.
-use borrow.Author.Rules.{rules}
-use Rattle.timer_map.proofs.Pack.{push_law, row_length}
+use mathlib.Core.Path.{◌∙◌}
+use Rattle.timer_map.proofs.Pack.{push_law}
 use Rattle.timer_map.proofs.push_entry.Goals as goal
 
-pub put_words-requires : goal.put_words-requires
-put_words-requires c = search (row_length, rules)
-
 pub returns : goal.returns
-returns c = search push_law
+returns c = push_law _ _ _ c.requires.sound_queue c.requires.q_bound (c.copy_from_slice.ensures.after ∙ c.from-row.ensures)

@@ -1,7 +1,6 @@
 -- By cases on the test: a queue that passes is sound, so `insert_ok` answers; any other is broken and stays as it was.
 use borrow.Author.Rules.{rules}
-use Rattle.timer_map.proofs.Ways.{sound_asked}
-use Rattle.timer_map.proofs.Ways.{insert_asked, insert_broken}
+use Rattle.timer_map.proofs.Ways.{sound_asked, insert_asked, insert_broken}
 use Rattle.timer_map.proofs.timer_map_insert.Goals as goal
 
 pub insert_ok-requires : goal.insert_ok-requires

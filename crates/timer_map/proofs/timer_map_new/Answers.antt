@@ -6,4 +6,4 @@ pub returns-then-q-ne-WORDS : goal.returns-then-q-ne-WORDS
 returns-then-q-ne-WORDS c = search new_broken
 
 pub returns : goal.returns
-returns c = search new_done
+returns c = new_done _ _ c.if-q-ne-WORDS.false (c.fill.ensures.after (λ _ e. e))

@@ -1,14 +1,15 @@
--- What `ok` says with the words still to come is the test of all words; the measure is how many are left.
-use borrow.Author.Rules.{rules}
-use Rattle.base_lists.proofs.Tests.{so_far_from, so_far_next, so_far_end}
+-- `all` answers for each word from there on, as the definition does.
+use Rattle.std.proofs.Common.{rules, tests, arith, ap, ◌∙◌}
+use Rattle.std.proofs.Math.Seq.{take_all}
+use Rattle.std.proofs.lemmas.List.{length-drop}
+use Rattle.std.proofs.lemmas.Iterator.{YieldsList-from_slice}
+use Rattle.std.proofs.lemmas.Iterator.Search.{all_from_yields_List}
+use Rattle.base_lists.specs.Tests.{every}
 use Rattle.timer_map.specs.Words.{unused_word}
+use Rattle.timer_map.proofs.Chunks.{all_is}
 use Rattle.timer_map.proofs.unused_from.Goals as goal
 
-pub loop-i-init : goal.loop-i-init
-loop-i-init c = search (so_far_from unused_word 0, rules)
-
-pub loop-i-preserved : goal.loop-i-preserved
-loop-i-preserved c = search (so_far_next unused_word 0)
-
 pub returns : goal.returns
-returns c = search (so_far_end unused_word 0)
+returns c =
+    all_from_yields_List unused_word _ _ c.all.result c.all.ensures.ran (YieldsList-from_slice _ c.iter.ensures.rest) (λ x b q k. search (rules, tests))
+    ∙ all_is unused_word _ ∙ ap (every unused_word) (take_all _ _ (omega (arith, length-drop c.args.from c.args.q.now)))

@@ -1,28 +1,18 @@
--- The bytes passed are written. The measure is what is left.
-use borrow.Author.Rules.{rules}
-use mathlib.Core.Path.{refl}
+-- Each byte is two digits, and at the end all of the front are written.
+use mathlib.Core.Path.{refl, ap}
 use native.Mathlib.Omega.{arith}
-use Rattle.trace_text.proofs.Writing.{hex_start, hex_next, hex_enough, hex_end}
+use Prim.Native.Nat.{◌<◌}
+use lib.ListN.{take, get_or, length-take}
+use lib.Seq.{get_or-take}
+use Rattle.trace_text.proofs.Writing.{hex_next, hex_end}
 use Rattle.trace_text.proofs.put_front.Goals as goal
 
-pub loop-i-init : goal.loop-i-init
-loop-i-init c = search (hex_start, rules)
+-- An element of the front is a byte.
+fits : (c : goal.After-put-in-loop-x) → get_or (take c.min.result c.args.bytes.now) c.loop-x.x-index 0 < 256
+fits c = let q = get_or-take c.min.result c.args.bytes.now c.loop-x.x-index 0 (omega (arith, length-take c.min.result c.args.bytes.now)) in omega (arith, q, c.type_inv.bytes c.loop-x.x-index)
 
-pub returns-then-n-i : goal.returns-then-n-i
-returns-then-n-i c = search hex_enough
-
-pub overflow_add-high : goal.overflow_add-high
-overflow_add-high c = omega (arith, c.type_inv.bytes c.loop-i.i)
-
-pub overflow_mul-high : goal.overflow_mul-high
-overflow_mul-high c = omega (arith, c.type_inv.bytes c.loop-i.i)
-
-pub overflow_add-high-in-loop-i : goal.overflow_add-high-in-loop-i
-overflow_add-high-in-loop-i c = omega (arith, c.type_inv.bytes c.loop-i.i)
-
-pub loop-i-preserved : goal.loop-i-preserved
-loop-i-preserved c =
-    hex_next _ _ _ _ _ _ _ c.loop-i.invariant _ _ _ _ _ _ (search rules) (search rules) (c.type_inv.bytes c.loop-i.i).fits refl refl c.put-r-in-loop-i.ensures c.put-r.ensures (search rules)
+pub loop-x-preserved : goal.loop-x-preserved
+loop-x-preserved c = hex_next _ _ _ _ c.loop-x.invariant _ _ _ _ (omega arith) (fits c) refl refl c.put-in-loop-x.ensures c.put.ensures
 
 pub returns : goal.returns
-returns c = search hex_end
+returns c = hex_end _ _ _ _ c.loop-x.invariant _ _ (ap (λ n. take n c.args.bytes.now) c.min.ensures) (omega arith)

@@ -1,11 +1,8 @@
--- The bytes passed are written. The measure is what is left.
-use Prim.Native.Nat.{◌-◌}
-use lib.ListN.{length}
-use Rattle.trace_text.proofs.Writing.{Hexing}
+-- The bytes that are left of the front are to be written.
+use lib.ListN.{drop}
+use Rattle.trace_text.specs.Hex.{hex}
+use Rattle.trace_text.proofs.Writing.{Writing}
 use Rattle.trace_text.proofs.put_front.Given as goal
 
-abbrev pub invariant-loop-i : goal.invariant-loop-i
-invariant-loop-i l = Hexing l.bytes l.n l.initial.r l.initial.out l.r l.out l.i
-
-abbrev pub decreases-loop-i : goal.decreases-loop-i
-decreases-loop-i l = length l.bytes - l.i
+abbrev pub invariant-loop-x : goal.invariant-loop-x
+invariant-loop-x l = Writing (hex l.x-items) l.initial.t l.t (hex (drop l.x-index l.x-items))

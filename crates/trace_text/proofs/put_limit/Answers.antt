@@ -3,14 +3,14 @@ use Rattle.trace_text.specs.Items.{ascii}
 use Rattle.trace_text.proofs.Laws.{limit_automatic, limit_requests, limit_recovery}
 use Rattle.trace_text.proofs.put_limit.Goals as goal
 
-pub returns-then-kind-eq-AUTOMATIC : goal.returns-then-kind-eq-AUTOMATIC
+pub returns-in-0 : goal.returns-in-0
 unfolding ascii
-returns-then-kind-eq-AUTOMATIC c = search limit_automatic
+returns-in-0 c = search limit_automatic
 
-pub returns-then-kind-eq-REQUESTS_LEFT : goal.returns-then-kind-eq-REQUESTS_LEFT
+pub returns-in-1 : goal.returns-in-1
 unfolding ascii
-returns-then-kind-eq-REQUESTS_LEFT c = search limit_requests
+returns-in-1 c = search limit_requests
 
-pub returns : goal.returns
+pub returns-in_default : goal.returns-in_default
 unfolding ascii
-returns c = search limit_recovery
+returns-in_default c = search limit_recovery

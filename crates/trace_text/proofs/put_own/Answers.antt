@@ -7,6 +7,6 @@ pub returns-then-st-eq1 : goal.returns-then-st-eq1
 unfolding ascii
 returns-then-st-eq1 c = search own_some
 
-pub returns : goal.returns
+pub returns-else-st-eq1 : goal.returns-else-st-eq1
 unfolding ascii
-returns c = search own_none
+returns-else-st-eq1 c = search own_none

@@ -4,4 +4,4 @@ use Rattle.work.proofs.notify_node.Goals as goal
 
 pub returns : goal.returns
 unfolding rec_in
-returns c = c.emit_one.ensures
+returns c = rw c.plain.ensures at c.emit_one.ensures

@@ -1,5 +1,7 @@
--- By value it is `handle` over a copy of the words: its contract is the one wanted.
+-- It is the call that names its side, from the wired one, which is `handle` for the definition too.
+use mathlib.Core.Path.{◌∙◌}
+use Rattle.hyparview.proofs.Sides.{wired_is}
 use Rattle.hyparview.proofs.State.handle.Goals as goal
 
 pub returns : goal.returns
-returns c = c.handle-d.ensures
+returns c = c.handle_from.ensures ∙ wired_is _ _ _ _

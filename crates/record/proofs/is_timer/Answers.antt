@@ -1,8 +1,0 @@
--- Both comparisons are the definition, by computation.
-use mathlib.Core.Path.{refl}
-use Rattle.record.specs.Read.{is_timer}
-use Rattle.record.proofs.is_timer.Goals as goal
-
-pub returns : goal.returns
-unfolding is_timer
-returns c = refl

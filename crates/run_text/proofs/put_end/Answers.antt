@@ -1,7 +1,0 @@
--- Two bytes and two fields put one after the other are the line, by `end_put`.
-use Rattle.run_text.proofs.Laws.{end_put}
-use Rattle.run_text.proofs.put_end.Goals as goal
-
-pub returns : goal.returns
-returns c =
-    end_put _ _ _ _ _ _ _ _ _ _ _ _ c.put_field.ensures c.put_field-c.ensures c.put-b.ensures c.put-a.ensures
