@@ -3,7 +3,7 @@
 
 ghost use Rattle.std.specs.Prelude.{◌≡◌, ◌≤◌, length, IfSome};
 ghost use Rattle.record_convert.specs.Walk.{progress_code, Walks};
-ghost use Rattle.record_stream.specs.Chunk.{chunk_bytes, walked_by, walked_in};
+ghost use Rattle.record_stream.specs.Chunk.{chunk_bytes, walked_by, walked_in, IsAnswered};
 
 use record::{Form, Refusal};
 use record_convert::Progress;
@@ -71,7 +71,8 @@ struct Turned {
 
 fn turn(buffer: &mut [u8], held: usize, out: &mut [u8], to: Form) -> Option<Turned>
     requires { held ≤ length buffer.old }
-    ensures { IfSome result (λ t. (t.held ≤ length buffer.old) × (t.taken ≤ length buffer.old)) }
+    ensures in_bounds { IfSome result (λ t. (t.held ≤ length buffer.old) × (t.taken ≤ length buffer.old)) }
+    ensures answered { IfSome result (λ t. IsAnswered to t.refused) }
 {
     let n = fill(buffer, held);
     let p = pass(&buffer[..n], out, to)?;
@@ -84,30 +85,34 @@ fn turn(buffer: &mut [u8], held: usize, out: &mut [u8], to: Form) -> Option<Turn
 }
 
 // Turn by turn, to the end of the input or to the first record that is refused: its bytes are held whole then, as the buffer is longer than any record.
-fn stream(buffer: &mut [u8], out: &mut [u8], to: Form)
+fn stream(buffer: &mut [u8], out: &mut [u8], to: Form) -> Option<Refusal>
     requires { length buffer.old ≤ chunk_bytes }
+    ensures { IsAnswered to result }
 {
     let mut held: usize = 0;
     let mut place: u64 = 0;
     for _turn in 0..TURNS {
         let Some(t) = turn(buffer, held, out, to) else {
             complain_full();
-            return;
+            return None;
         };
         held = t.held;
         if t.taken == 0 {
             if let Some(why) = t.refused {
                 complain(why, place);
             }
-            return;
+            return t.refused;
         }
         place += t.taken as u64;
     }
+    None
 }
 
-// The whole of the input, to a form.
-pub fn convert_input(to: Form) {
+// The whole of the input, to a form: the refusal that ended it, where there was one.
+pub fn convert_input(to: Form) -> Option<Refusal>
+    ensures { IsAnswered to result }
+{
     let mut buffer = [0u8; CHUNK];
     let mut out = [0u8; CONVERTED_CHUNK];
-    stream(&mut buffer, &mut out, to);
+    stream(&mut buffer, &mut out, to)
 }
