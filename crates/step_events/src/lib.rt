@@ -69,7 +69,7 @@ pub fn handle_join(w: Work, st: &mut Words, out: &mut [u8], p: PeerId) -> Work
     }
     // Code 10 where no number is left for a join.
     let id = st[Layout::NEXT_JOIN];
-    let d = work::require(b, Refusal::Counter, id < hyparview_state::TOP_COUNTER);
+    let d = b.require(Refusal::Counter, id < hyparview_state::TOP_COUNTER);
     if d.code != 0 {
         return d;
     }
@@ -153,11 +153,10 @@ pub fn handle_pin(w: Work, st: &mut Words, p: PeerId) -> Work
     ensures { Alters (handle_pin p) w result st }
 {
     let active = hyparview_state::in_active(st, p);
-    let a = work::require(w, Refusal::PinStranger, active);
+    let a = w.require(Refusal::PinStranger, active);
     let pinned = base_util::contains(&st[Layout::PINS..Layout::PINS_END], Layout::PINS_PLACES, p);
     let more = st[Layout::PINS_COUNT] + 1;
-    let b = work::require(
-        a,
+    let b = a.require(
         Refusal::PinLimit,
         pinned | (more < st[Layout::ACTIVE_VIEW_CAPACITY]),
     );

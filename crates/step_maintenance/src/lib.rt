@@ -21,7 +21,7 @@ fn pass_alone(w: Work, st: &mut Words, draws: &[u32], out: &mut [u8]) -> Work
 {
     // Code 10 where the pass cannot be counted.
     let n = st[Layout::PASSES_ALONE];
-    let mut a = work::require(w, Refusal::Counter, n < hyparview_state::TOP_PASSES);
+    let mut a = w.require(Refusal::Counter, n < hyparview_state::TOP_PASSES);
     if a.code != 0 {
         return a;
     }
@@ -84,7 +84,7 @@ fn maintain(w: Work, st: &mut Words, draws: &[u32], out: &mut [u8]) -> Work
         // The pass is counted (code 10 where it cannot be), and the backoff says whether it refills, with a new limit; who refused may have
         // room by then.
         let n = st[Layout::PASSES_SHORT];
-        let b = work::require(a, Refusal::Counter, n < hyparview_state::TOP_PASSES);
+        let b = a.require(Refusal::Counter, n < hyparview_state::TOP_PASSES);
         if b.code == 0 {
             st[Layout::PASSES_SHORT] = n + 1;
         }

@@ -117,7 +117,7 @@ fn note_refusal(w: Work, st: &mut Words, p: PeerId, requested: bool) -> Work
             Layout::REFUSED_PLACES,
             p,
         ) | (n < Layout::REFUSED_PLACES);
-        let a = work::require(w, Refusal::RefusedPeers, fits);
+        let a = w.require(Refusal::RefusedPeers, fits);
         if a.code != 0 {
             return a;
         }

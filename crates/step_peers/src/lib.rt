@@ -160,7 +160,7 @@ pub fn insert_peer_info(
         Layout::PEER_DATA_PLACES,
         p,
     ) | (st[Layout::PEER_DATA_COUNT] < Layout::PEER_DATA_PLACES as u64);
-    let b = work::require(a, Refusal::Data, fits);
+    let b = a.require(Refusal::Data, fits);
     if b.code == 0 {
         let m = &mut st[Layout::PEER_DATA..Layout::PEER_DATA_END];
         base_columns::insert_data(m, Layout::PEER_DATA_PLACES, p, data);

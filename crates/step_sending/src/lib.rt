@@ -147,9 +147,8 @@ pub fn send_neighbor(w: Work, st: &mut Words, out: &mut [u8], p: PeerId, high: b
         return w;
     }
     let id = st[Layout::NEXT_NEIGHBOR_REQUEST];
-    let a = work::require(w, Refusal::Counter, id < hyparview_state::TOP_COUNTER);
-    let b = work::require(
-        a,
+    let a = w.require(Refusal::Counter, id < hyparview_state::TOP_COUNTER);
+    let b = a.require(
         Refusal::Requests,
         st[Layout::REQUESTS_COUNT] < MOST_REQUESTS,
     );

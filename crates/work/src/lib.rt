@@ -97,9 +97,9 @@ pub fn shuffle_by_draws(w: Work, draws: &[u32], v: &mut [u64]) -> Work
 
 // ---- refusals and records
 
-// This refusal, unless the test holds.
-pub fn require(w: Work, refusal: Refusal, test: bool) -> Work
-    ensures { ChangesAny (require (refusal_code refusal) test) w result }
+// A refusal with this code, unless the test holds.
+pub fn require(w: Work, code: u32, test: bool) -> Work
+    ensures { ChangesAny (require code test) w result }
 {
     if w.code != 0 {
         return w;
@@ -107,9 +107,15 @@ pub fn require(w: Work, refusal: Refusal, test: bool) -> Work
     if test {
         return w;
     }
-    Work {
-        code: refusal.into(),
-        ..w
+    Work { code, ..w }
+}
+
+impl Work {
+    // This refusal, unless the test holds.
+    pub fn require(self, refusal: Refusal, test: bool) -> Work
+        ensures { ChangesAny (require (refusal_code refusal) test) self result }
+    {
+        require(self, refusal.into(), test)
     }
 }
 
