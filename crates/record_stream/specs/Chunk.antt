@@ -6,6 +6,7 @@ use Rattle.record.specs.Format.{old_peer_length, peer_length}
 use Rattle.record.specs.declared.Form.{Form}
 use Rattle.record.specs.declared.Form.TheVariants.{Old, This}
 use Rattle.record.specs.declared.Refusal.{Refusal}
+use Rattle.record_convert.specs.declared.Progress.{Progress}
 use Rattle.record_convert.specs.Walk.{Walked, walked, progress_code}
 
 -- the most bytes that are held at once
@@ -20,6 +21,10 @@ walked_by This b room = walked old_peer_length peer_length b room
 -- the same of lent bytes, as a contract says it of the parameters
 abbrev pub walked_in : Form → Seen → Lent → Walked
 walked_in to b out = walked_by to b.entry.now (length out.entry.now)
+
+-- the refusal and the place of p are those that the definition gives the lent bytes
+abbrev pub AnswersBytes : Form → Seen → Lent → Progress → Type 0
+AnswersBytes to b out p = (progress_code p.refused ≡ (walked_in to b out).code) × (p.taken ≡ (walked_in to b out).taken)
 
 -- r is the answer to some bytes: the refusal that the definition gives them, or none
 pub record IsAnswered (to : Form) (r : Option Refusal) : Type 0 where

@@ -1,9 +1,9 @@
 // Document 02, S-8: a file of records of any length from standard input to standard output, each record in the other form.
 #![tactic(auto)]
 
-ghost use Rattle.std.specs.Prelude.{◌≡◌, ◌≤◌, length, IfSome};
-ghost use Rattle.record_convert.specs.Walk.{progress_code, Walks};
-ghost use Rattle.record_stream.specs.Chunk.{chunk_bytes, walked_by, walked_in, IsAnswered};
+ghost use Rattle.std.specs.Prelude.{◌≤◌, length, IfSome, MatchResult};
+ghost use Rattle.record_convert.specs.Walk.{Walks};
+ghost use Rattle.record_stream.specs.Chunk.{chunk_bytes, walked_by, AnswersBytes, IsAnswered};
 
 use record::{Form, Refusal};
 use record_convert::Progress;
@@ -49,16 +49,16 @@ fn fill(buffer: &mut [u8], held: usize) -> usize
     held + io::read_full(0, &mut buffer[held..])
 }
 
-// The records of b to standard output, to the first that is refused or is cut off; nothing where standard output takes no more.
-fn pass(b: &[u8], out: &mut [u8], to: Form) -> Option<Progress>
-    ensures taken_in_bounds { IfSome result (λ p. p.taken ≤ length b.now) }
-    ensures code_value { IfSome result (λ p. (progress_code p.refused ≡ (walked_in to b out).code) × (p.taken ≡ (walked_in to b out).taken)) }
+// The records of b to standard output, to the first that is refused or is cut off: how far they were converted, as Err where standard output takes no more.
+fn pass(b: &[u8], out: &mut [u8], to: Form) -> Result<Progress, Progress>
+    ensures taken_in_bounds { MatchResult result (λ p. p.taken ≤ length b.now) (λ p. p.taken ≤ length b.now) }
+    ensures code_value { MatchResult result (AnswersBytes to b out) (AnswersBytes to b out) }
 {
     let p = convert_by(b, out, to);
     if io::write_all(1, &out[..p.written]) {
-        return Some(p);
+        return Ok(p);
     }
-    None
+    Err(p)
 }
 
 // What a turn leaves: how many bytes are held, how many were converted, and the refusal of those behind them.
@@ -75,7 +75,7 @@ fn turn(buffer: &mut [u8], held: usize, out: &mut [u8], to: Form) -> Option<Turn
     ensures answered { IfSome result (λ t. IsAnswered to t.refused) }
 {
     let n = fill(buffer, held);
-    let p = pass(&buffer[..n], out, to)?;
+    let p = pass(&buffer[..n], out, to).ok()?;
     buffer.copy_within(p.taken..n, 0);
     Some(Turned {
         held: n - p.taken,
