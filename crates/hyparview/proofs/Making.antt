@@ -6,7 +6,7 @@ use mathlib.Core.Bool.{Bool, true, false, not, ◌&&◌, ◌||◌}
 use mathlib.Core.List.{List, [], ◌∷◌, ◌++◌}
 use mathlib.Core.Option.{none, some}
 use lib.Dec.{leb}
-use lib.ListN.{length, take, drop, replicate}
+use lib.ListN.{length, take, drop}
 use Rattle.std.specs.Prelude.{Option, Some, None}
 use Rattle.std.specs.Option.{is_some}
 use borrow.Author.Tests.{eq-eqb, ne_eqb}
@@ -162,9 +162,8 @@ unfolding made
 other_length xs me d c k z n = rw z (sym (choose_no _ _ _ (ne_eqb (length xs) layout.words n)))
 
 -- the words are cleared before all else
-pub cleared : (xs ys : List ℕ) → length xs ≡ layout.words → ys ≡ replicate (length xs) 0 → ys ≡ pad 0 layout.words []
-unfolding pad
-cleared xs ys l e = e ∙ ap (λ (n : ℕ). replicate n 0) l
+pub cleared : (xs ys : List ℕ) → length xs ≡ layout.words → ys ≡ pad 0 (length xs) (take 0 xs) → ys ≡ pad 0 layout.words []
+cleared xs ys l e = e ∙ ap (λ (n : ℕ). pad {A = ℕ} 0 n []) l
 
 module _ (xs : List ℕ) (me : ℕ) (c : Config) (r : Option PeerData) (p : Bool) (own : List ℕ) (b : Bool) (l : length xs ≡ layout.words) (e : b ≡ in_range c) (o : Own r p own) (s : Bool) (is : s ≡ is_some r) where
   abbrev d : Data
@@ -190,7 +189,7 @@ module _ (xs : List ℕ) (me : ℕ) (c : Config) (r : Option PeerData) (p : Bool
       let w : record { code = 0; state = new_station me d c } ≡ handle.new me d c = sym (choose_yes _ _ _ (tested ∙ t)) in
       (λ i. record { code = 0; words = z i }) ∙ ap pack_made w ∙ to_made
 
-  pub turned_down : (ys : List ℕ) (k : ℕ) → k ≡ 1 → (b && ok) ≡ false → ys ≡ replicate (length xs) 0 → record { code = k; words = ys } ≡ made xs me d c
+  pub turned_down : (ys : List ℕ) (k : ℕ) → k ≡ 1 → (b && ok) ≡ false → ys ≡ pad 0 (length xs) (take 0 xs) → record { code = k; words = ys } ≡ made xs me d c
   unfolding pack_made handle.new
   turned_down ys k a t q =
       let z : ys ≡ pack zero_station = cleared xs ys l q ∙ zero_words in

@@ -91,7 +91,7 @@ pub fn new(st: &mut [u64], me: PeerId, present: bool, own: &[u8], config: Config
     if st.len() != Layout::LENGTH {
         return Refusal::State.into();
     }
-    st.fill(0);
+    base_util::clear_from(st, 0);
     let data = if present {
         PeerData::from_slice(own)
     } else {
@@ -202,14 +202,17 @@ pub fn handle(st: &mut [u64], b: &[u8], draws: &[u32], out: &mut [u8]) -> Done
     match record::read_event(b) {
         Err(r) => refuse(st, out, r.into()),
         Ok(h) => {
-            // The steps are done on a copy, so that a refusal leaves the words as they were.
-            let mut words = *kept;
-            let a = step_dispatch::steps(Work::default(), &mut words, draws, out, b, h);
+            // The words are kept aside for a refusal, which leaves them as they were.
+            let old = *kept;
+            let Some(words) = st.as_mut_array() else {
+                unreachable!()
+            };
+            let a = step_dispatch::steps(Work::default(), words, draws, out, b, h);
             let code = a.code;
             if code != 0 {
+                st.copy_from_slice(&old);
                 return refuse(st, out, code);
             }
-            st.copy_from_slice(&words);
             let at = a.written;
             out[at..].fill(0);
             Done {
@@ -306,14 +309,19 @@ impl State {
     }
 
     // The same of a call that names its side.
-    pub fn handle_from(self, radio: bool, b: &[u8], draws: &[u32], out: &mut [u8]) -> HandledState
+    pub fn handle_from(
+        mut self,
+        radio: bool,
+        b: &[u8],
+        draws: &[u32],
+        out: &mut [u8],
+    ) -> HandledState
         ensures { HandlesStateFrom (side_of radio) result self b draws out }
     {
-        let mut words = self.words;
-        let d = handle_from(&mut words, radio, b, draws, out);
+        let d = handle_from(&mut self.words, radio, b, draws, out);
         HandledState {
             code: d.code,
-            state: State { words },
+            state: self,
             draws: d.draws,
         }
     }
