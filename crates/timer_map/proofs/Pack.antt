@@ -231,7 +231,7 @@ push_law ws e a s h p =
 
 -- ---- zeroes from a place on
 
-cleared : (s c : List ℕ) (at : ℕ) → at ≤ length s → c ≡ replicate (length (take (length s - at) (drop at s))) 0 → put_mid at (length s - at) s c ≡ take at s ++ replicate (length s - at) 0
+pub cleared : (s c : List ℕ) (at : ℕ) → at ≤ length s → c ≡ replicate (length (take (length s - at) (drop at s))) 0 → put_mid at (length s - at) s c ≡ take at s ++ replicate (length s - at) 0
 cleared s c at h e =
     let n : length (take (length s - at) (drop at s)) ≡ length s - at = length-take-le (length s - at) (drop at s) (omega (arith, length-drop at s)) in
     let z : drop (length s - at) (drop at s) ≡ [] = drop_all (length s - at) (drop at s) (omega (arith, length-drop at s)) in
@@ -343,9 +343,8 @@ truncate_pack es n h f =
     ∙ ap (λ (j : ℕ). n ∷ (queue_rows (take n es) ++ replicate j 0)) k
     ∙ ap (λ (j : ℕ). j ∷ (queue_rows (take n es) ++ replicate (512 - 8 * j) 0)) (sym a)
 
-pub truncate_law : (ws : List ℕ) (n : ℕ) (z : List ℕ) → SoundQueue ws → n ≤ queue_count ws → z ≡ replicate (length (take (length ws - (1 + 8 * n)) (drop (1 + 8 * n) ws))) 0
-    → set (put_mid (1 + 8 * n) (length ws - (1 + 8 * n)) ws z) 0 n ≡ pack_queue (take n (entries_of ws))
-truncate_law ws n z v h p =
-    ap (λ (l : List ℕ). set l 0 n) (cleared ws z (1 + 8 * n) (omega (arith, v.long, v.few)) p ∙ ap (λ (k : ℕ). take (1 + 8 * n) ws ++ replicate (k - (1 + 8 * n)) 0) v.long)
+pub truncate_law : (ws : List ℕ) (n : ℕ) (c : List ℕ) → SoundQueue ws → n ≤ queue_count ws → c ≡ take (1 + 8 * n) ws ++ replicate (length ws - (1 + 8 * n)) 0 → set c 0 n ≡ pack_queue (take n (entries_of ws))
+truncate_law ws n c v h p =
+    ap (λ (l : List ℕ). set l 0 n) (p ∙ ap (λ (k : ℕ). take (1 + 8 * n) ws ++ replicate (k - (1 + 8 * n)) 0) v.long)
     ∙ ap (λ (l : List ℕ). set (take (1 + 8 * n) l ++ replicate (513 - (1 + 8 * n)) 0) 0 n) v.is
     ∙ truncate_pack (entries_of ws) n (omega (arith, v.count)) (omega (arith, v.count, v.few))

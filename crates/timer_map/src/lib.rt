@@ -1,7 +1,7 @@
 // Document 02, S-1: the timer queue of util.rs, `TimerMap`, in 513 words that the caller lends.
 #![tactic(auto)]
 
-ghost use Rattle.std.specs.Prelude.{◌≡◌, [], ◌∷◌, ◌++◌, ◌+◌, ◌≤◌, ◌<◌, length, take, drop, IfOk};
+ghost use Rattle.std.specs.Prelude.{◌≡◌, [], ◌∷◌, ◌++◌, ◌+◌, ◌-◌, ◌≤◌, ◌<◌, length, take, drop, replicate, IfOk};
 ghost use Rattle.std.specs.Simd.{first_chunks};
 ghost use Rattle.base_lists.specs.Lists.{shift_remove};
 ghost use Rattle.base_lists.specs.Tests.{every};
@@ -182,7 +182,8 @@ fn unused_from(q: &[u64], from: usize) -> bool
     requires { from ≤ length q.now }
     ensures { result ≡ every unused_word (drop from q.now) }
 {
-    q[from..].iter().all(|w| *w == 0)
+    // Every word is looked at, since the compiler makes vector code of that, and none of `all`.
+    q[from..].iter().fold(true, |ok, w| ok & (*w == 0))
 }
 
 // Whether the words keep the queue's own rules.
@@ -198,6 +199,14 @@ pub fn queue_ok(q: &[u64]) -> bool
     }
     let count = n as usize;
     queue_entries_ok(q, count) & unused_from(q, ROWS + ROW * count)
+}
+
+// The words from place `from` on become zero.
+fn clear_rows(q: &mut [u64], from: usize)
+    requires { from ≤ length q.old }
+    ensures { q.new ≡ take from q.old ++ replicate (length q.old - from) 0 }
+{
+    q[from..].fill(0);
 }
 
 // One more entry, at the end.
@@ -232,8 +241,7 @@ pub fn truncate_entries(q: &mut [u64], n: u64)
     requires n_bound { n ≤ queue_count q.old }
     ensures { q.new ≡ pack_queue (take n (entries_of q.old)) }
 {
-    let at = ROWS + ROW * (n as usize);
-    q[at..].fill(0);
+    clear_rows(q, ROWS + ROW * (n as usize));
     q[COUNT] = n;
 }
 
@@ -402,6 +410,6 @@ pub fn timer_map_new(q: &mut [u64]) -> u32
     if q.len() != WORDS {
         return QueueRefusal::Broken as u32;
     }
-    q.fill(0);
+    clear_rows(q, 0);
     0
 }
