@@ -13,7 +13,7 @@ use borrow.Author.Tests.{le-leb, lt-leb, leb-true, ltb-true, ltb-false, eq-eqb, 
 use Rattle.base_lists.proofs.Choice.{split, choose_yes, choose_no}
 use Rattle.hyparview.specs.declared.State.{State}
 use Rattle.hyparview.specs.Handled.{handled}
-use Rattle.run_text.specs.declared.Text.{Text}
+use Rattle.run_text.specs.declared.Page.{Page}
 use denote.MutBor.{MutBor}
 use Rattle.run_text.specs.Text.{Prints, Begins}
 use Rattle.run_text.proofs.Written.{begun, nothing, then, named}
@@ -43,14 +43,14 @@ use Rattle.run_listing.specs.Opened.{first_place, opened_head, opened_input, ope
 
 -- ---- the events in order
 
-pub record Running (room : ℕ) (whole events draws : List ℕ) (n : ℕ) (t : Text) (recs : List ℕ) (p : Runner) (r : Text) (i : ℕ) : Type 0 where
+pub record Running (room : ℕ) (whole events draws : List ℕ) (n : ℕ) (t : Page) (recs : List ℕ) (p : Runner) (r : Page) (i : ℕ) : Type 0 where
   pub low : i ≤ n
   pub records : length recs ≡ room
   pub done : List ℕ
   pub so_far : Prints done t r
   pub same : whole ≡ done ++ rest_text room p i n events draws
 
-pub running_start : (s : State) (events draws : List ℕ) (n : ℕ) (t : Text) (recs : List ℕ)
+pub running_start : (s : State) (events draws : List ℕ) (n : ℕ) (t : Page) (recs : List ℕ)
     → Running (length recs) (events_text (length recs) 0 s.words (cut_events n events) draws) events draws n t recs (record { state = s; at = 0; used = 0 }) t 0
 unfolding rest_text
 running_start s events draws n t recs = record {
@@ -85,9 +85,9 @@ rest_end room p i n events draws h =
     let z : n - i ≡ 0 = omega (arith, h) in
     ap (λ (x : ℕ). events_text room i p.state.words (cut_events x (drop p.at events)) (drop p.used draws)) z
 
-module _ (room : ℕ) (whole events draws : List ℕ) (n : ℕ) (t : Text) (recs : List ℕ) (p : Runner) (r : Text) (i : ℕ) (v : Running room whole events draws n t recs p r i) where
+module _ (room : ℕ) (whole events draws : List ℕ) (n : ℕ) (t : Page) (recs : List ℕ) (p : Runner) (r : Page) (i : ℕ) (v : Running room whole events draws n t recs p r i) where
   -- the walk's step, and the lines of its event
-  pub running_next : (a : Ran) (s : Text) (recs₂ : List ℕ) → i < n → Runs (length recs) p events draws a recs₂ → Prints (event_text i a.code a.draws recs₂) r s
+  pub running_next : (a : Ran) (s : Page) (recs₂ : List ℕ) → i < n → Runs (length recs) p events draws a recs₂ → Prints (event_text i a.code a.draws recs₂) r s
       → length recs₂ ≡ length recs → Running room whole events draws n t recs₂ a.runner s (i + 1)
   unfolding outcome_text
   running_next a s recs₂ h ran put e₂ =
@@ -122,7 +122,7 @@ module _ (w : ℕ) (out o : List ℕ) (r : Option ℕ) (n : ℕ) (e : r ≡ fitt
   pub shown_counted : n ≡ length (take n o)
   shown_counted = counted n o shown_within
 
-pub walked : (room : ℕ) (xs : List ℕ) (head : Head) (b ns : List ℕ) (t r : Text) → IsPrefixLen head.draws ns → ns ≡ numbers (length ns) 0 (drop head.draws_at b)
+pub walked : (room : ℕ) (xs : List ℕ) (head : Head) (b ns : List ℕ) (t r : Page) → IsPrefixLen head.draws ns → ns ≡ numbers (length ns) 0 (drop head.draws_at b)
     → Prints (events_text room 0 xs (cut_events head.events (take (head.draws_at - head_length) (drop head_length b))) (take head.draws ns)) t r → Prints (laid_text room xs head b) t r
 unfolding laid_text
 walked room xs head b ns t r h e k =
@@ -184,10 +184,10 @@ module _ (b : List ℕ) (o : Result Head Refusal) (e : o ≡ opened_run b) where
   unfolding opened_text
   whole_text head h = text_is ∙ ap (λ (x : Result Head Refusal). opened_text x b) h
 
-  pub run_line : (c : Refusal) (n : ℕ) (t r : Text) → o ≡ Err c → n ≡ refusal_code c → Prints (end_line n 0) t r → Prints (run_text b) t r
+  pub run_line : (c : Refusal) (n : ℕ) (t r : Page) → o ≡ Err c → n ≡ refusal_code c → Prints (end_line n 0) t r → Prints (run_text b) t r
   run_line c n t r h e k = named (ap (λ (m : ℕ). end_line m 0) e ∙ sym (line_text c h)) k
 
-  pub run_events : (head : Head) (q : Runner) (t r : Text) → o ≡ Ok head → q ≡ first_place head → Prints (laid_text output_room q.state.words head b) t r → Prints (run_text b) t r
+  pub run_events : (head : Head) (q : Runner) (t r : Page) → o ≡ Ok head → q ≡ first_place head → Prints (laid_text output_room q.state.words head b) t r → Prints (run_text b) t r
   run_events head q t r h f k = named (ap (λ (x : Runner). laid_text output_room x.state.words head b) f ∙ sym (whole_text head h)) k
 
 events_is : (x y : Head) → ◌≡◌ {A = Result Head Refusal} (Ok x) (Ok y) → x ≡ y
@@ -214,16 +214,16 @@ opened_laid b o head e h = laid b head (whole_input (input_of b) head (sym e ∙
 
 -- ---- the answer
 
-module _ (b : List ℕ) (out : MutBor (List ℕ)) (t₀ t : Text) (h : Begins out t₀) (k : Prints (run_text b) t₀ t) where
-  pub run_fits : t.full ≡ false → (Some t.at ≡ fitting (length (run_text b)) (length out.now)) × (t.out.now ≡ overwrite out.now 0 (run_text b))
+module _ (b : List ℕ) (out : MutBor (List ℕ)) (t₀ t : Page) (h : Begins out t₀) (k : Prints (run_text b) t₀ t) where
+  pub run_fits : t.text.full ≡ false → (Some t.text.at ≡ fitting (length (run_text b)) (length out.now)) × (t.out.now ≡ overwrite out.now 0 (run_text b))
   unfolding fitting
   run_fits f =
       let s = k.puts [] out.now (begun h) in
       let l : length (run_text b) ≤ length out.now = ltb-false (length out.now) (length (run_text b)) (sym s.over ∙ f) in
-      let m : t.at ≡ length (run_text b) = omega (arith, s.reached, l) in
+      let m : t.text.at ≡ length (run_text b) = omega (arith, s.reached, l) in
       (ap Some m ∙ sym (choose_yes _ _ _ (le-leb (length (run_text b)) (length out.now) l)), s.bytes)
 
-  pub run_cut : t.full ≡ true → (None ≡ fitting (length (run_text b)) (length out.now)) × (t.out.now ≡ overwrite out.now 0 (run_text b))
+  pub run_cut : t.text.full ≡ true → (None ≡ fitting (length (run_text b)) (length out.now)) × (t.out.now ≡ overwrite out.now 0 (run_text b))
   unfolding fitting
   run_cut f =
       let s = k.puts [] out.now (begun h) in

@@ -14,7 +14,7 @@ use Rattle.base_lists.proofs.Choice.{by_choice, split, choose_yes, choose_no}
 use Rattle.record.specs.declared.Header.{Header}
 use Rattle.record.specs.Format.{header_length}
 use Rattle.record.specs.Read.{header_of}
-use Rattle.run_text.specs.declared.Text.{Text}
+use Rattle.run_text.specs.declared.Page.{Page}
 use denote.MutBor.{MutBor}
 use Rattle.std.specs.Prelude.{Some, None, Ok}
 use Rattle.run_text.specs.Text.{Prints, Begins}
@@ -68,14 +68,14 @@ end_few code draws =
 -- ---- lines at the front of lent bytes
 
 -- a text that fits stands at the front
-fronts : (w : List ℕ) (out : MutBor (List ℕ)) (t₀ t : Text) (o : List ℕ) → o ≡ t.out.now → length w ≤ length out.now → Begins out t₀ → Prints w t₀ t → Fronts w out.now t.at o
+fronts : (w : List ℕ) (out : MutBor (List ℕ)) (t₀ t : Page) (o : List ℕ) → o ≡ t.out.now → length w ≤ length out.now → Begins out t₀ → Prints w t₀ t → Fronts w out.now t.text.at o
 fronts w out t₀ t o e l h k =
     let s = k.puts [] out.now (begun h) in
     let long : length t.out.now ≡ length out.now = ap length s.bytes ∙ length_overwrite out.now 0 w in
-    let few : t.at ≤ length o = omega (arith, s.reached, l, long, ap length e) in
-    record { size = omega (arith, s.reached, l); counts = (few, counted t.at o few); bytes = e ∙ s.bytes }
+    let few : t.text.at ≤ length o = omega (arith, s.reached, l, long, ap length e) in
+    record { size = omega (arith, s.reached, l); counts = (few, counted t.text.at o few); bytes = e ∙ s.bytes }
 
-pub end_fronts : (code draws : ℕ) (t r : Text) (out : MutBor (List ℕ)) (o : List ℕ) → 44 ≤ length out.now → Begins out t → Prints (end_line code draws) t r → o ≡ r.out.now → Fronts (end_line code draws) out.now r.at o
+pub end_fronts : (code draws : ℕ) (t r : Page) (out : MutBor (List ℕ)) (o : List ℕ) → 44 ≤ length out.now → Begins out t → Prints (end_line code draws) t r → o ≡ r.out.now → Fronts (end_line code draws) out.now r.text.at o
 end_fronts code draws t r out o l h k e = let few = end_few code draws in fronts (end_line code draws) out t r o e (omega (arith, few, l)) h k
 
 -- no text leaves the bytes as they are
@@ -103,15 +103,15 @@ module _ (i : ℕ) (b : List ℕ) where
         let e : (header_of b).size ≡ 0 = ap (λ (x : Header). x.size) (sym is) ∙ z in
         record { line = empty_fronts _ out (choose_no _ _ _ (le-ltb (length b) header_length m) ∙ choose_yes _ _ _ (eq-eqb _ 0 e)); taken = sym z ∙ size_is; none = λ _. refl }
 
-    pub lines_one : (out : MutBor (List ℕ)) (t r : Text) (o : List ℕ) → (h.size ≡ 0 → ⊥) → 168 ≤ length out.now → Begins out t → Prints (record_line i h) t r → o ≡ r.out.now
-        → Lines i b out.now (Some (record { size = r.at; taken = h.size })) o
+    pub lines_one : (out : MutBor (List ℕ)) (t r : Page) (o : List ℕ) → (h.size ≡ 0 → ⊥) → 168 ≤ length out.now → Begins out t → Prints (record_line i h) t r → o ≡ r.out.now
+        → Lines i b out.now (Some (record { size = r.text.at; taken = h.size })) o
     unfolding first_line
     lines_one out t r o z l g k q =
         let few = line_few i h in
         let w : record_line i h ≡ first_line i b =
         ap (record_line i) is ∙ sym (choose_no _ _ _ (le-ltb (length b) header_length m) ∙ choose_no _ _ _ (ne_eqb _ 0 (λ e. z (ap (λ (x : Header). x.size) is ∙ e)))) in
         record {
-          line = subst (λ (x : List ℕ). Fronts x out.now r.at o) w (fronts (record_line i h) out t r o q (omega (arith, few, l)) g k);
+          line = subst (λ (x : List ℕ). Fronts x out.now r.text.at o) w (fronts (record_line i h) out t r o q (omega (arith, few, l)) g k);
           taken = size_is;
           none = λ e. absurd (z (size_is ∙ e));
         }

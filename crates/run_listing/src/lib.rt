@@ -15,7 +15,7 @@ ghost use Rattle.run_listing.specs.Opened.{opened_run, first_place};
 use hyparview::State;
 use record::Refusal;
 use run_input::Head;
-use run_text::Text;
+use run_text::Page;
 use run_walk::Runner;
 
 // Bytes that suffice for the line that ends an event, and for the line of a record, with twenty digits for each number.
@@ -31,7 +31,7 @@ pub struct Lined {
 }
 
 // The events of an input, with the numbers that stand where its draws do.
-fn put_walk(s: State, b: &[u8], head: Head, drawn: &[u32], records: &mut [u8], t: &mut Text)
+fn put_walk(s: State, b: &[u8], head: Head, drawn: &[u32], records: &mut [u8], t: &mut Page)
     requires laid { Laid b.now head }
     requires prefix_len { IsPrefixLen head.draws drawn.now }
     requires drawn_value { drawn.now ≡ numbers (length drawn.now) 0 (drop head.draws_at b.now) }
@@ -72,9 +72,9 @@ pub fn end_line(code: u32, draws: usize, out: &mut [u8]) -> usize
     requires { end_line_space ≤ length out.old }
     ensures { Fronts (end_line code draws) out.old result out.new }
 {
-    let mut t = Text::new(out);
+    let mut t = Page::new(out);
     t.put_end(code, draws as u64);
-    t.at
+    t.text.at
 }
 
 // The line of the first record of an output, at the front of the lent bytes; None where no record stands there.
@@ -90,10 +90,10 @@ pub fn record_line(i: usize, records: &[u8], out: &mut [u8]) -> Option<Lined>
     if n == 0 {
         return None;
     }
-    let mut t = Text::new(out);
+    let mut t = Page::new(out);
     t.put_record(i as u64, h);
     Some(Lined {
-        size: t.at,
+        size: t.text.at,
         taken: n,
     })
 }
@@ -111,7 +111,7 @@ pub fn begin(head: Head) -> Runner
 }
 
 // All that is printed for an input.
-fn put_run(b: &[u8], t: &mut Text)
+fn put_run(b: &[u8], t: &mut Page)
     ensures { Prints (run_text b.now) t.old t.new }
 {
     match open(b) {
@@ -132,10 +132,10 @@ pub fn run(b: &[u8], out: &mut [u8]) -> Option<usize>
     ensures value { result ≡ fitting (length (run_text b.now)) (length out.old) }
     ensures out_after { out.new ≡ overwrite out.old 0 (run_text b.now) }
 {
-    let mut t = Text::new(out);
+    let mut t = Page::new(out);
     put_run(b, &mut t);
-    if t.full {
+    if t.text.full {
         return None;
     }
-    Some(t.at)
+    Some(t.text.at)
 }

@@ -7,9 +7,9 @@ ghost use Rattle.run_text.specs.Text.{Prints};
 ghost use Rattle.run_stories.specs.Lines.{ends_line, ends_text};
 
 use endings::Ends;
-use run_text::Text;
+use run_text::Page;
 
-fn put_line(t: &mut Text, active: u64, passive: u64, n: u32)
+fn put_line(t: &mut Page, active: u64, passive: u64, n: u32)
     ensures { Prints (ends_line active passive n) t.old t.new }
 {
     t.put_field(active, b' ');
@@ -17,7 +17,7 @@ fn put_line(t: &mut Text, active: u64, passive: u64, n: u32)
     t.put_field(n as u64, b'\n');
 }
 
-fn put_ends(t: &mut Text, c: Ends)
+fn put_ends(t: &mut Page, c: Ends)
     ensures { Prints (ends_text c) t.old t.new }
 {
     put_line(t, 0, 0, c.neither);
@@ -31,9 +31,9 @@ fn tell(out: &mut [u8], c: Ends) -> usize
     ensures value { (result ≡ min (length (ends_text c)) (length out.old)) × (result ≤ length out.old) }
     ensures out_after { out.new ≡ overwrite out.old 0 (ends_text c) }
 {
-    let mut t = Text::new(out);
+    let mut t = Page::new(out);
     put_ends(&mut t, c);
-    t.at
+    t.text.at
 }
 
 // Four lines of two digits and a count of at most ten.

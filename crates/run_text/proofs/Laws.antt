@@ -11,7 +11,7 @@ use Rattle.record.specs.Format.{header_length}
 use Rattle.record.specs.Read.{header_of}
 use Rattle.record.specs.Walk.{records_in, headers}
 use Rattle.record.proofs.Walk.{records_few, taken_none, taken_one}
-use Rattle.run_text.specs.declared.Text.{Text}
+use Rattle.run_text.specs.declared.Page.{Page}
 use Rattle.run_text.specs.Text.{Prints}
 use Rattle.run_text.specs.Numbers.{field}
 use Rattle.run_text.proofs.Written.{nothing, then, named}
@@ -30,11 +30,11 @@ spaced_more (n ∷ ns) zero h = sym (append-nil (field n space))
 spaced_more (n ∷ ns) (suc k) h =
     append_assoc (field n space) (spaced (take k ns)) (field (get_or ns k 0) space) ∙ ap (λ (x : List ℕ). field n space ++ x) (spaced_more ns k (omega (arith, h)))
 
-pub spacing_start : (t : Text) → Prints (spaced []) t t
+pub spacing_start : (t : Page) → Prints (spaced []) t t
 unfolding spaced
 spacing_start t = nothing
 
-pub spacing_next : (ns : List ℕ) (t a r : Text) (k : ℕ) → Prints (spaced (take k ns)) t a → k < length ns → Prints (field (get_or ns k 0) space) a r → Prints (spaced (take (k + 1) ns)) t r
+pub spacing_next : (ns : List ℕ) (t a r : Page) (k : ℕ) → Prints (spaced (take k ns)) t a → k < length ns → Prints (field (get_or ns k 0) space) a r → Prints (spaced (take (k + 1) ns)) t r
 spacing_next ns t a r k v h p = let e : suc k ≡ k + 1 = omega arith in named (spaced_more ns k h ∙ ap (λ (j : ℕ). spaced (take j ns)) e) (then p v)
 
 module _ (i : ℕ) (h : Header) where
@@ -45,14 +45,14 @@ module _ (i : ℕ) (h : Header) where
   unfolding spaced record_line four
   line_is = simp append_assoc
 
-  pub record_put : (t a r : Text) (k : ℕ) → 7 ≤ k → Prints (field h.nodes newline) a r → Prints (spaced (take k numbers)) t a → Prints (record_line i h) t r
+  pub record_put : (t a r : Page) (k : ℕ) → 7 ≤ k → Prints (field h.nodes newline) a r → Prints (spaced (take k numbers)) t a → Prints (record_line i h) t r
   record_put t a r k l p v = named (ap (λ (x : List ℕ). spaced x ++ field h.nodes newline) (take_all k numbers (omega arith)) ∙ line_is) (then p v)
 
-pub end_put : (code n : ℕ) (t a b c r : Text) → Prints (field n 10) c r → Prints (field code 32) b c → Prints (32 ∷ []) a b → Prints (61 ∷ []) t a → Prints (end_line code n) t r
+pub end_put : (code n : ℕ) (t a b c r : Page) → Prints (field n 10) c r → Prints (field code 32) b c → Prints (32 ∷ []) a b → Prints (61 ∷ []) t a → Prints (end_line code n) t r
 unfolding end_line
 end_put code n t a b c r k₄ k₃ k₂ k₁ = then (then (then k₄ k₃) k₂) k₁
 
-pub event_put : (i code n : ℕ) (b : List ℕ) (t a r : Text) → Prints (end_line code n) a r → Prints (record_lines i (headers b)) t a → Prints (event_text i code n b) t r
+pub event_put : (i code n : ℕ) (b : List ℕ) (t a r : Page) → Prints (end_line code n) a r → Prints (record_lines i (headers b)) t a → Prints (event_text i code n b) t r
 unfolding event_text
 event_put i code n b t a r k₂ k₁ = then k₂ k₁
 
@@ -79,15 +79,15 @@ module _ (i code draws : ℕ) (b : List ℕ) where
       text_by (b ∷ rest) (taken_one b (header_of b) refl h e) ∙ append_assoc (record_line i (header_of b)) (record_lines i (map header_of rest)) (end_line code draws)
 
 -- the lines of `rest` are to come, after what was written
-pub record Listing (i : ℕ) (whole : List ℕ) (t r : Text) (rest : List ℕ) : Type 0 where
+pub record Listing (i : ℕ) (whole : List ℕ) (t r : Page) (rest : List ℕ) : Type 0 where
   pub done : List ℕ
   pub so_far : Prints done t r
   pub same : whole ≡ done ++ record_lines i (headers rest)
 
-pub listing_start : (i : ℕ) (t : Text) (b : List ℕ) → Listing i (record_lines i (headers b)) t t b
+pub listing_start : (i : ℕ) (t : Page) (b : List ℕ) → Listing i (record_lines i (headers b)) t t b
 listing_start i t b = record { done = []; so_far = nothing; same = refl }
 
-module _ (i : ℕ) (whole : List ℕ) (t r : Text) (b : List ℕ) (v : Listing i whole t r b) where
+module _ (i : ℕ) (whole : List ℕ) (t r : Page) (b : List ℕ) (v : Listing i whole t r b) where
   by_records : (bs : List (List ℕ)) → records_in b ≡ bs → whole ≡ v.done ++ record_lines i (map header_of bs)
   unfolding headers
   by_records bs e = v.same ∙ ap (λ (x : List (List ℕ)). v.done ++ record_lines i (map header_of x)) e
@@ -96,7 +96,7 @@ module _ (i : ℕ) (whole : List ℕ) (t r : Text) (b : List ℕ) (v : Listing i
   unfolding record_lines
   listing_end e = named (sym (by_records [] e ∙ append-nil v.done)) v.so_far
 
-  pub listing_next : (h : Header) (c more : List ℕ) (s : Text) → records_in b ≡ c ∷ records_in more → h ≡ header_of c → Prints (record_line i h) r s → Listing i whole t s more
+  pub listing_next : (h : Header) (c more : List ℕ) (s : Page) → records_in b ≡ c ∷ records_in more → h ≡ header_of c → Prints (record_line i h) r s → Listing i whole t s more
   unfolding record_lines headers
   listing_next h c more s e is k = record {
     done = v.done ++ record_line i h;

@@ -10,7 +10,7 @@ use lib.Dec.{leb}
 use borrow.Author.Tests.{lt-ltb, le-ltb, leb-true, leb-false}
 use Rattle.base_lists.proofs.Choice.{choose_yes, choose_no, split}
 use Rattle.io.specs.Digits.{hex_digit_ascii, last_digits, IsDigitCount}
-use Rattle.run_text.specs.declared.Text.{Text}
+use Rattle.run_text.specs.declared.Page.{Page}
 use Rattle.run_text.specs.Text.{Prints}
 use Rattle.run_text.specs.Numbers.{digits_within, decimal, field}
 use Rattle.run_text.proofs.Written.{then, named}
@@ -55,10 +55,10 @@ few n k l h =
     let big : 10 ^ 20 ≡ 100000000000000000000 = refl in
     absurd (omega (arith, l, p, q, big)))
 
-pub put_digits : (n k : ℕ) (all : List ℕ) (t r : Text) → n < 18446744073709551616 → IsDigitCount 10 1 n k → take k all ≡ last_digits 10 k n → Prints (take k all) t r → Prints (decimal n) t r
+pub put_digits : (n k : ℕ) (all : List ℕ) (t r : Page) → n < 18446744073709551616 → IsDigitCount 10 1 n k → take k all ≡ last_digits 10 k n → Prints (take k all) t r → Prints (decimal n) t r
 unfolding decimal
 put_digits n k all t r l f q p = named (q ∙ spelled k 20 n (few n k l f) f) p
 
-pub put_after : (n x : ℕ) (t a r : Text) → Prints (x ∷ []) a r → Prints (decimal n) t a → Prints (field n x) t r
+pub put_after : (n x : ℕ) (t a r : Page) → Prints (x ∷ []) a r → Prints (decimal n) t a → Prints (field n x) t r
 unfolding field
 put_after n x t a r k₂ k₁ = then k₂ k₁

@@ -11,10 +11,10 @@ use denote.MutBor.{MutBor}
 use Rattle.std.proofs.lemmas.List.{take_more, set_past}
 use Rattle.base_lists.specs.Bytes.{overwrite}
 use Rattle.base_lists.proofs.Bytes.{overwrite_append, length_overwrite}
-use Rattle.run_text.specs.declared.Text.{Text}
+use Rattle.run_text.specs.declared.Page.{Page}
 use Rattle.run_text.specs.Text.{Shows, Prints, Begins}
 
-pub begun : {t : Text} {out : MutBor (List ℕ)} → Begins out t → Shows [] out.now t
+pub begun : {t : Page} {out : MutBor (List ℕ)} → Begins out t → Shows [] out.now t
 unfolding overwrite
 begun {t} {out} b = record { reached = b.at_start ∙ omega arith; over = b.room ∙ sym (le-ltb (length out.now) 0 (omega arith)); bytes = b.bytes }
 
@@ -22,14 +22,14 @@ one_more : (out₀ w : List ℕ) (x : ℕ) → set (overwrite out₀ 0 w) (lengt
 unfolding overwrite
 one_more out₀ w x = let e : length w ≡ 0 + length w = omega arith in ap (λ (j : ℕ). set (overwrite out₀ 0 w) j x) e ∙ overwrite_append out₀ 0 w (x ∷ [])
 
-module _ (t r : Text) (x : ℕ) (same : r.out.ghost_name ≡ t.out.ghost_name) where
-  pub put_fits : t.at < length t.out.now → r.out.now ≡ set t.out.now t.at x → r.at ≡ t.at + 1 → r.full ≡ t.full → Prints (x ∷ []) t r
+module _ (t r : Page) (x : ℕ) (same : r.out.ghost_name ≡ t.out.ghost_name) where
+  pub put_fits : t.text.at < length t.out.now → r.out.now ≡ set t.out.now t.text.at x → r.text.at ≡ t.text.at + 1 → r.text.full ≡ t.text.full → Prints (x ∷ []) t r
   put_fits h e a f = record {
     same = same;
-    long = ap length e ∙ length-set t.out.now t.at x;
+    long = ap length e ∙ length-set t.out.now t.text.at x;
     puts = λ w out₀ k.
         let l : length t.out.now ≡ length out₀ = ap length k.bytes ∙ length_overwrite out₀ 0 w in
-        let q : t.at ≡ length w = omega (arith, k.reached, l, h) in
+        let q : t.text.at ≡ length w = omega (arith, k.reached, l, h) in
         let m : length (w ++ (x ∷ [])) ≡ length w + 1 = length-append w (x ∷ []) in
         record {
           reached = omega (arith, a, q, l, h, m);
@@ -38,7 +38,7 @@ module _ (t r : Text) (x : ℕ) (same : r.out.ghost_name ≡ t.out.ghost_name) w
         };
   }
 
-  pub put_past : length t.out.now ≤ t.at → r.out.now ≡ t.out.now → r.at ≡ t.at → r.full ≡ true → Prints (x ∷ []) t r
+  pub put_past : length t.out.now ≤ t.text.at → r.out.now ≡ t.out.now → r.text.at ≡ t.text.at → r.text.full ≡ true → Prints (x ∷ []) t r
   put_past h e a f = record {
     same = same;
     long = ap length e;
@@ -53,11 +53,11 @@ module _ (t r : Text) (x : ℕ) (same : r.out.ghost_name ≡ t.out.ghost_name) w
         };
   }
 
-pub nothing : {t : Text} → Prints [] t t
+pub nothing : {t : Page} → Prints [] t t
 nothing {t} = record { same = refl; long = refl; puts = λ w out₀ k. subst (λ (z : List ℕ). Shows z out₀ t) (sym (append-nil w)) k }
 
 -- x and then y
-pub then : {x y : List ℕ} {t a r : Text} → Prints y a r → Prints x t a → Prints (x ++ y) t r
+pub then : {x y : List ℕ} {t a r : Page} → Prints y a r → Prints x t a → Prints (x ++ y) t r
 then {x} {y} {r = r} k₂ k₁ = record {
   same = k₂.same ∙ k₁.same;
   long = k₂.long ∙ k₁.long;
@@ -65,9 +65,9 @@ then {x} {y} {r = r} k₂ k₁ = record {
 }
 
 -- the same text by another name
-pub named : {x y : List ℕ} {t r : Text} → x ≡ y → Prints x t r → Prints y t r
+pub named : {x y : List ℕ} {t r : Page} → x ≡ y → Prints x t r → Prints y t r
 named {t = t} {r} e k = subst (λ (z : List ℕ). Prints z t r) e k
 
 -- one more of the bytes s
-pub bytes_next : (s : List ℕ) (t a r : Text) (i : ℕ) → Prints (take i s) t a → i < length s → Prints (get_or s i 0 ∷ []) a r → Prints (take (i + 1) s) t r
+pub bytes_next : (s : List ℕ) (t a r : Page) (i : ℕ) → Prints (take i s) t a → i < length s → Prints (get_or s i 0 ∷ []) a r → Prints (take (i + 1) s) t r
 bytes_next s t a r i v h k = named (sym (take_more s i 0 h)) (then k v)

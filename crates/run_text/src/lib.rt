@@ -9,23 +9,28 @@ ghost use Rattle.run_text.specs.Lines.{record_line, end_line, record_lines, even
 
 use record::{Header, Records};
 
-// A text that is written into lent bytes: the place reached, and whether something did not fit, after which nothing is written.
-#[derive(Drop)]
-pub struct Text<'a> {
-    pub out: &'a mut [u8],
+// The place reached, and whether something did not fit: nothing is written after that.
+#[derive(Clone, Copy)]
+pub struct Text {
     pub at: usize,
     pub full: bool,
 }
 
-impl<'a> Text<'a> {
+// Lent bytes, and the text that is written into them.
+#[derive(Drop)]
+pub struct Page<'a> {
+    pub out: &'a mut [u8],
+    pub text: Text,
+}
+
+impl<'a> Page<'a> {
     // No text yet.
-    pub fn new(out: &'a mut [u8]) -> Text<'a>
+    pub fn new(out: &'a mut [u8]) -> Page<'a>
         ensures { Begins out.entry result }
     {
-        Text {
+        Page {
             out,
-            at: 0,
-            full: false,
+            text: Text { at: 0, full: false },
         }
     }
 
@@ -33,11 +38,11 @@ impl<'a> Text<'a> {
     pub fn put(&mut self, x: u8)
         ensures { Prints (x ∷ []) self.old self.new }
     {
-        if self.at < self.out.len() {
-            self.out[self.at] = x;
-            self.at += 1;
+        if self.text.at < self.out.len() {
+            self.out[self.text.at] = x;
+            self.text.at += 1;
         } else {
-            self.full = true;
+            self.text.full = true;
         }
     }
 

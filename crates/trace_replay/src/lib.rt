@@ -10,7 +10,7 @@ use hyparview::State;
 use hyparview_state::Layout;
 use record::Refusal;
 use run_input::Head;
-use run_text::Text;
+use run_text::Page;
 use run_walk::Runner;
 
 // Space for the text of an event.
@@ -70,11 +70,11 @@ fn walk(s: State, b: &[u8], head: Head, room: usize) -> State
         // The event at the place reached, and its text.
         let a = run_walk::step(p, events, draws, out);
         p = a.runner;
-        let mut t = Text::new(&mut space);
+        let mut t = Page::new(&mut space);
         trace_text::put_trace_event(&mut t, out, a.code, a.draws, &p.state.words);
-        let end = t.at;
+        let end = t.text.at;
         // A text that did not fit is named, and not cut off.
-        if t.full || EVENT_SPACE < end {
+        if t.text.full || EVENT_SPACE < end {
             io::write_all(1, b"! a text that does not fit\n");
         } else {
             io::write_all(1, &space[..end]);

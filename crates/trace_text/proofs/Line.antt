@@ -22,7 +22,7 @@ use Rattle.hyparview_state.specs.declared.RefillLimit.TheVariants.{Automatic, Re
 use Rattle.hyparview_state.specs.Layout as layout
 use Rattle.hyparview_state.specs.Layout.{words}
 use Rattle.hyparview_state.specs.Unpack.{own_at, limit_at}
-use Rattle.run_text.specs.declared.Text.{Text}
+use Rattle.run_text.specs.declared.Page.{Page}
 use Rattle.run_text.specs.Text.{Prints}
 use Rattle.run_text.specs.Numbers.{decimal}
 use Rattle.trace_text.specs.Items.{ascii, comma_before, item_text, items_text, list_field, number_field, numbered_text, held_text}
@@ -294,13 +294,13 @@ columns_form c e =
     split (eqb c 4) (λ y. inr (inr (inr (eqb-true c 4 y)))) (λ n. few_columns c (ltb-true c 3 (ap (λ (b : Bool). b || ltb c 3) (sym n) ∙ e)))
 
 -- i bytes of the line are passed, and k fields
-pub record Lining (xs : List ℕ) (t r : Text) (i k : ℕ) : Type 0 where
+pub record Lining (xs : List ℕ) (t r : Page) (i k : ℕ) : Type 0 where
   pub within : i ≤ line_size
   pub long : length xs ≡ words
   pub fits : line_fits (drop i line) k ≡ true
   pub text : Writing (line_text line 0 xs) t r (line_text (drop i line) k xs)
 
-pub line_start : (xs : List ℕ) (t : Text) → length xs ≡ words → Lining xs t t 0 0
+pub line_start : (xs : List ℕ) (t : Page) → length xs ≡ words → Lining xs t t 0 0
 unfolding line line_fits row_fits after digit choose places rooms ascii
 line_start xs t l = record { within = omega arith; long = l; fits = refl; text = writing_start (line_text line 0 xs) t }
 
@@ -308,7 +308,7 @@ line_long : length line ≡ line_size
 unfolding line ascii
 line_long = refl
 
-module _ (xs : List ℕ) (t r : Text) (i k : ℕ) (v : Lining xs t r i k) where
+module _ (xs : List ℕ) (t r : Page) (i k : ℕ) (v : Lining xs t r i k) where
   here : i < line_size → drop i line ≡ get_or line i 0 ∷ drop (i + 1) line
   here h = let e : suc i ≡ i + 1 = omega arith in drop-cons line i 0 (omega (arith, h, line_long)) ∙ ap (λ (j : ℕ). get_or line i 0 ∷ drop j line) e
 
@@ -324,7 +324,7 @@ module _ (xs : List ℕ) (t r : Text) (i k : ℕ) (v : Lining xs t r i k) where
     unfolding line_fits
     fits_after = and_right (choose (digit (get_or line i 0)) (row_fits (get_or line i 0 - 48) k) true) _ fits_here
 
-    next : (s : Text) (x : List ℕ) (l : ℕ) → after (get_or line i 0) k ≡ l → byte_text (get_or line i 0) k xs ≡ x → Prints x r s → Lining xs t s (i + 1) l
+    next : (s : Page) (x : List ℕ) (l : ℕ) → after (get_or line i 0) k ≡ l → byte_text (get_or line i 0) k xs ≡ x → Prints x r s → Lining xs t s (i + 1) l
     unfolding line_text
     next s x l f e u = record {
       within = omega (arith, h);
@@ -337,7 +337,7 @@ module _ (xs : List ℕ) (t r : Text) (i k : ℕ) (v : Lining xs t r i k) where
     unfolding after
     same_field n = choose_no _ _ _ n
 
-    module _ (s : Text) where
+    module _ (s : Page) where
       pub own_next : get_or line i 0 ≡ 79 → Prints (drop (length (ascii "state me=")) (own_field (fields_in (own_at xs)))) r s → Lining xs t s (i + 1) k
       unfolding byte_text
       own_next e u = next s _ k (same_field (digit_over (get_or line i 0) (omega (arith, e)))) (choose_yes _ _ _ (eq-eqb (get_or line i 0) 79 e)) u
@@ -386,7 +386,7 @@ module _ (xs : List ℕ) (t r : Text) (i k : ℕ) (v : Lining xs t r i k) where
             form = columns_form (get_or line i 0 - 48) (and_left (eqb (get_or line i 0 - 48) 4 || ltb (get_or line i 0 - 48) 3) _ fits_row);
           })
 
-      pub field_next : (s : Text) → Prints (field_at (get_or line i 0 - 48) (get_or places k 0) (get_or rooms k 0) xs) r s → Lining xs t s (i + 1) (k + 1)
+      pub field_next : (s : Page) → Prints (field_at (get_or line i 0 - 48) (get_or places k 0) (get_or rooms k 0) xs) r s → Lining xs t s (i + 1) (k + 1)
       unfolding byte_text after
       field_next s u =
           let e : suc k ≡ k + 1 = omega arith in

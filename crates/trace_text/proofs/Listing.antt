@@ -17,7 +17,7 @@ use Rattle.base_util.proofs.Parts.{part_long, part_read}
 use Rattle.base_columns.specs.Columns.{numbers_at, word_bytes, row, head_of, tail_of, count_of, entries_at, data_map_at}
 use Rattle.base_columns.proofs.Data.{head_long, tail_long, head_read, low_read, high_read}
 use Rattle.base_columns.proofs.Rows.{length_rows, get_d_rows}
-use Rattle.run_text.specs.declared.Text.{Text}
+use Rattle.run_text.specs.declared.Page.{Page}
 use Rattle.run_text.specs.Text.{Prints}
 use Rattle.run_text.specs.Numbers.{decimal}
 use Rattle.run_text.proofs.Written.{nothing, then, named}
@@ -170,7 +170,7 @@ module _ (a k : ℕ) (xs : List ℕ) where
 -- ---- the loop
 
 -- the items before the i-th are written, of the items of the field as many as the count says and there is room for
-pub record Listed (c a k : ℕ) (xs : List ℕ) (count : ℕ) (t r : Text) (i : ℕ) : Type 0 where
+pub record Listed (c a k : ℕ) (xs : List ℕ) (count : ℕ) (t r : Page) (i : ℕ) : Type 0 where
   pub form : InWords c a k (length xs)
   pub many : length (texts_at c a k xs) ≡ min count k
   pub within : i ≤ k
@@ -235,26 +235,26 @@ module _ (c a k : ℕ) (xs : List ℕ) (w : InWords c a k (length xs)) where
   alone : c ≡ 0 → length (texts_at c a k xs) ≡ min 1 k
   alone e = ap length (texts_none e) ∙ omega (arith, w.some)
 
-  start : (count : ℕ) (t : Text) → length xs * 8 < 2 ^ 63 → length (texts_at c a k xs) ≡ min count k → Listed c a k xs count t t 0
+  start : (count : ℕ) (t : Page) → length xs * 8 < 2 ^ 63 → length (texts_at c a k xs) ≡ min count k → Listed c a k xs count t t 0
   unfolding field_at
   start count t b m = record { form = w; many = m; within = omega arith; inside = w.first; short = b; text = writing_start (field_at c a k xs) t }
 
-  pub listed_some : (count : ℕ) (t : Text) → length xs * 8 < 2 ^ 63 → (c ≡ 0 → ⊥) → count ≡ get_or xs (a + c * k) 0 → Listed c a k xs count t t 0
+  pub listed_some : (count : ℕ) (t : Page) → length xs * 8 < 2 ^ 63 → (c ≡ 0 → ⊥) → count ≡ get_or xs (a + c * k) 0 → Listed c a k xs count t t 0
   listed_some count t b z e = start count t b (counted z ∙ ap (λ (n : ℕ). min n k) (sym e))
 
-  pub listed_alone : (count : ℕ) (t : Text) → length xs * 8 < 2 ^ 63 → c ≡ 0 → count ≡ 1 → Listed c a k xs count t t 0
+  pub listed_alone : (count : ℕ) (t : Page) → length xs * 8 < 2 ^ 63 → c ≡ 0 → count ≡ 1 → Listed c a k xs count t t 0
   listed_alone count t b z e = start count t b (alone z ∙ ap (λ (n : ℕ). min n k) (sym e))
 
 -- a comma or none
-pub comma_none : (i : ℕ) (t : Text) → i ≡ 0 → Prints (comma_before i) t t
+pub comma_none : (i : ℕ) (t : Page) → i ≡ 0 → Prints (comma_before i) t t
 unfolding comma_before
 comma_none i t e = named (sym (choose_yes _ _ _ (eq-eqb i 0 e))) nothing
 
-pub comma_some : (i : ℕ) (t r : Text) → (i ≡ 0 → ⊥) → Prints (44 ∷ []) t r → Prints (comma_before i) t r
+pub comma_some : (i : ℕ) (t r : Page) → (i ≡ 0 → ⊥) → Prints (44 ∷ []) t r → Prints (comma_before i) t r
 unfolding comma_before ascii
 comma_some i t r e k = named (sym (choose_no _ _ _ (ne_eqb i 0 e))) k
 
-module _ (c a k : ℕ) (xs : List ℕ) (count : ℕ) (t r : Text) (i : ℕ) (v : Listed c a k xs count t r i) where
+module _ (c a k : ℕ) (xs : List ℕ) (count : ℕ) (t r : Page) (i : ℕ) (v : Listed c a k xs count t r i) where
   pub second_inside : i < k → 1 < c → a + i + k < length xs
   second_inside h l =
       ⊎_elim (λ e. absurd (omega (arith, e, l)))
@@ -289,7 +289,7 @@ module _ (c a k : ℕ) (xs : List ℕ) (count : ℕ) (t r : Text) (i : ℕ) (v :
         ap (items_text (λ (x : List ℕ). x) i) (drop-cons (texts_at c a k xs) i [] (omega (arith, h, l, v.many)))
         ∙ ap (λ (j : ℕ). item_text (λ (x : List ℕ). x) i (get_or (texts_at c a k xs) i []) ++ items_text (λ (x : List ℕ). x) j (drop j (texts_at c a k xs))) e
 
-    next : (x : List ℕ) (s : Text) → get_or (texts_at c a k xs) i [] ≡ x → Prints (comma_before i ++ x) r s → Listed c a k xs count t s (i + 1)
+    next : (x : List ℕ) (s : Page) → get_or (texts_at c a k xs) i [] ≡ x → Prints (comma_before i ++ x) r s → Listed c a k xs count t s (i + 1)
     unfolding item_text
     next x s e u = record {
       form = v.form;
@@ -308,11 +308,11 @@ module _ (c a k : ℕ) (xs : List ℕ) (count : ℕ) (t r : Text) (i : ℕ) (v :
         (λ u. ⊎_elim (λ e. absurd (omega (arith, e, f))) (λ e. absurd (omega (arith, e, f))) u) s)
         v.form.form
 
-    module _ (r₁ r₂ : Text) (p₂ : Prints (decimal (get_or xs (a + i) 0)) r₁ r₂) (p₁ : Prints (comma_before i) r r₁) where
+    module _ (r₁ r₂ : Page) (p₂ : Prints (decimal (get_or xs (a + i) 0)) r₁ r₂) (p₁ : Prints (comma_before i) r r₁) where
       pub single_next : c ≤ 1 → Listed c a k xs count t r₂ (i + 1)
       single_next f = next _ r₂ (single f) (then p₂ p₁)
 
-      module _ (r₃ r₄ : Text) (p₃ : Prints (58 ∷ []) r₂ r₃) where
+      module _ (r₃ r₄ : Page) (p₃ : Prints (58 ∷ []) r₂ r₃) where
         pub numbered_next : c ≡ 2 → Prints (decimal (get_or xs (a + i + k) 0)) r₃ r₄ → Listed c a k xs count t r₄ (i + 1)
         unfolding numbered_text ascii
         numbered_next e p₄ =

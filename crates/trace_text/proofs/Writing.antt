@@ -17,22 +17,22 @@ use Rattle.record.specs.Format.{header_length}
 use Rattle.record.specs.Read.{header_of}
 use Rattle.record.specs.Walk.{records_in}
 use Rattle.record.proofs.Walk.{size_is}
-use Rattle.run_text.specs.declared.Text.{Text}
+use Rattle.run_text.specs.declared.Page.{Page}
 use Rattle.run_text.specs.Text.{Prints}
 use Rattle.run_text.proofs.Written.{nothing, then, named}
 use Rattle.trace_text.specs.Hex.{hex, hex_lines}
 
 -- rest is to come of the whole text, after what was written
-pub record Writing (whole : List ℕ) (t r : Text) (rest : List ℕ) : Type 0 where
+pub record Writing (whole : List ℕ) (t r : Page) (rest : List ℕ) : Type 0 where
   pub done : List ℕ
   pub so_far : Prints done t r
   pub same : whole ≡ done ++ rest
 
-pub writing_start : (whole : List ℕ) (t : Text) → Writing whole t t whole
+pub writing_start : (whole : List ℕ) (t : Page) → Writing whole t t whole
 writing_start whole t = record { done = []; so_far = nothing; same = refl }
 
-module _ {whole : List ℕ} {t r : Text} {rest : List ℕ} (v : Writing whole t r rest) where
-  pub writing_next : {s : Text} (x left : List ℕ) → rest ≡ x ++ left → Prints x r s → Writing whole t s left
+module _ {whole : List ℕ} {t r : Page} {rest : List ℕ} (v : Writing whole t r rest) where
+  pub writing_next : {s : Page} (x left : List ℕ) → rest ≡ x ++ left → Prints x r s → Writing whole t s left
   writing_next x left e k = record {
     done = v.done ++ x;
     so_far = then k v.so_far;
@@ -50,12 +50,12 @@ digit d h =
     split (ltb d 10) (λ y. let l = ltb-true d 10 y in let e : 48 + d + 39 * (d / 10) ≡ 48 + d = omega (arith, l) in e ∙ ap (λ (b : Bool). cond b (48 + d) (87 + d)) (sym y))
     (λ n. let l = ltb-false d 10 n in let e : 48 + d + 39 * (d / 10) ≡ 87 + d = omega (arith, l, h) in e ∙ ap (λ (b : Bool). cond b (48 + d) (87 + d)) (sym n))
 
-module _ (s : List ℕ) (t r : Text) (i : ℕ) (v : Writing (hex s) t r (hex (drop i s))) where
+module _ (s : List ℕ) (t r : Page) (i : ℕ) (v : Writing (hex s) t r (hex (drop i s))) where
   two_digits : i < length s → hex (drop i s) ≡ (hex_digit_ascii (get_or s i 0 / 16 % 16) ∷ hex_digit_ascii (get_or s i 0 % 16) ∷ []) ++ hex (drop (i + 1) s)
   unfolding hex
   two_digits h = let e : suc i ≡ i + 1 = omega arith in ap hex (drop-cons s i 0 h ∙ (λ j. get_or s i 0 ∷ drop (e j) s))
 
-  pub hex_next : (y z : ℕ) (a b : Text) → i < length s → get_or s i 0 < 256
+  pub hex_next : (y z : ℕ) (a b : Page) → i < length s → get_or s i 0 < 256
       → y ≡ 48 + get_or s i 0 / 16 + 39 * (get_or s i 0 / 16 / 10) → z ≡ 48 + get_or s i 0 % 16 + 39 * (get_or s i 0 % 16 / 10)
       → Prints (z ∷ []) a b → Prints (y ∷ []) r a → Writing (hex s) t b (hex (drop (i + 1) s))
   hex_next y z a b h m e f p₂ p₁ =
@@ -70,12 +70,12 @@ module _ (s : List ℕ) (t r : Text) (i : ℕ) (v : Writing (hex s) t r (hex (dr
 
 -- ---- the records of an output
 
-module _ (whole : List ℕ) (t r : Text) (b : List ℕ) (v : Writing whole t r (hex_lines (records_in b))) where
+module _ (whole : List ℕ) (t r : Page) (b : List ℕ) (v : Writing whole t r (hex_lines (records_in b))) where
   pub lines_end : records_in b ≡ [] → Prints whole t r
   unfolding hex_lines
   lines_end e = writing_end v (ap hex_lines e)
 
-  pub lines_next : (h : Header) (c more : List ℕ) (a s : Text) → records_in b ≡ c ∷ records_in more → h ≡ header_of c → Prints (10 ∷ []) a s → Prints (hex (take h.size c)) r a
+  pub lines_next : (h : Header) (c more : List ℕ) (a s : Page) → records_in b ≡ c ∷ records_in more → h ≡ header_of c → Prints (10 ∷ []) a s → Prints (hex (take h.size c)) r a
       → Writing whole t s (hex_lines (records_in more))
   unfolding hex_lines
   lines_next h c more a s e is k₂ k₁ =

@@ -14,7 +14,7 @@ ghost use Rattle.trace_text.specs.Event.{own_field, refill_field, trace_event};
 
 use hyparview_state::{Layout, RefillLimit};
 use record::Records;
-use run_text::Text;
+use run_text::Page;
 
 // ---- bytes in hex
 
@@ -22,7 +22,7 @@ use run_text::Text;
 const LETTERS: u8 = b'a' - b'0' - 10;
 
 // The first n of the bytes.
-fn put_front(t: &mut Text, bytes: &[u8], n: usize)
+fn put_front(t: &mut Page, bytes: &[u8], n: usize)
     ensures { Prints (hex (take n bytes.now)) t.old t.new }
 {
     for &x in &bytes[..n.min(bytes.len())] {
@@ -34,7 +34,7 @@ fn put_front(t: &mut Text, bytes: &[u8], n: usize)
 }
 
 // A line for each record, taken by its whole length; one that the end cuts off is the last, and is shown as far as it goes.
-fn put_record_lines(t: &mut Text, records: &[u8])
+fn put_record_lines(t: &mut Page, records: &[u8])
     ensures { Prints (hex_lines (records_in records.now)) t.old t.new }
 {
     for (h, bytes) in Records::of(records) {
@@ -93,7 +93,7 @@ const FIELD_ROOMS: [usize; 16] = [
 // end
 
 // A comma before every item but the first.
-fn put_comma(t: &mut Text, i: usize)
+fn put_comma(t: &mut Page, i: usize)
     ensures { Prints (comma_before i) t.old t.new }
 {
     if i != 0 {
@@ -102,7 +102,7 @@ fn put_comma(t: &mut Text, i: usize)
 }
 
 // The items of a field, as many as its count says and there is room for. The count stands behind the columns; a number is one item and has none.
-fn put_items(t: &mut Text, st: &[u64], columns: usize, at: usize, room: usize)
+fn put_items(t: &mut Page, st: &[u64], columns: usize, at: usize, room: usize)
     requires { InWords columns at room (length st.now) }
     ensures { Prints (field_at columns at room st.now) t.old t.new }
 {
@@ -130,7 +130,7 @@ fn put_items(t: &mut Text, st: &[u64], columns: usize, at: usize, room: usize)
 }
 
 // The station's own data, without the name of the field.
-fn put_own(t: &mut Text, st: &[u64])
+fn put_own(t: &mut Page, st: &[u64])
     requires { length st.now ≡ words }
     ensures { Prints (after_name "state me=" (own_field (fields_in (own_at st.now)))) t.old t.new }
 {
@@ -144,7 +144,7 @@ fn put_own(t: &mut Text, st: &[u64])
 }
 
 // The limit on refills, without the name of the field.
-fn put_limit(t: &mut Text, st: &[u64])
+fn put_limit(t: &mut Page, st: &[u64])
     requires { length st.now ≡ words }
     ensures { Prints (after_name " refill=" (refill_field (limit_at st.now))) t.old t.new }
 {
@@ -160,7 +160,7 @@ fn put_limit(t: &mut Text, st: &[u64])
 
 // One event: its output records, its code with the draws used, and the state.
 pub fn put_trace_event(
-    t: &mut Text,
+    t: &mut Page,
     records: &[u8],
     code: u32,
     draws: usize,

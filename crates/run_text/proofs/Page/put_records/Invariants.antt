@@ -2,7 +2,7 @@
 use Rattle.run_text.proofs.Laws.{Listing}
 use Rattle.record.specs.Walk.{headers}
 use Rattle.run_text.specs.Lines.{record_lines}
-use Rattle.run_text.proofs.Text.put_records.Given as goal
+use Rattle.run_text.proofs.Page.put_records.Given as goal
 
 abbrev pub invariant-loop-h : goal.invariant-loop-h
 invariant-loop-h l = record {

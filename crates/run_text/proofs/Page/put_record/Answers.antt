@@ -1,7 +1,7 @@
 -- The numbers before the last are written one by one, and then the last.
 use native.Mathlib.Omega.{arith}
 use Rattle.run_text.proofs.Laws.{spacing_start, spacing_next, record_put}
-use Rattle.run_text.proofs.Text.put_record.Goals as goal
+use Rattle.run_text.proofs.Page.put_record.Goals as goal
 
 pub loop-n-init : goal.loop-n-init
 loop-n-init c = spacing_start _

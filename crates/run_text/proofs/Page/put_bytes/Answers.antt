@@ -2,7 +2,7 @@
 use lib.Seq.{take_all}
 use native.Mathlib.Omega.{arith}
 use Rattle.run_text.proofs.Written.{nothing, named, bytes_next}
-use Rattle.run_text.proofs.Text.put_bytes.Goals as goal
+use Rattle.run_text.proofs.Page.put_bytes.Goals as goal
 
 pub loop-x-init : goal.loop-x-init
 loop-x-init c = nothing

@@ -2,7 +2,7 @@
 use borrow.Author.Rules.{rules}
 use Rattle.record.proofs.Walk.{next_record, next_header, no_record_left}
 use Rattle.run_text.proofs.Laws.{listing_start, listing_next, listing_end}
-use Rattle.run_text.proofs.Text.put_records.Goals as goal
+use Rattle.run_text.proofs.Page.put_records.Goals as goal
 
 pub loop-h-init : goal.loop-h-init
 loop-h-init c = record { can = tt; finite = tt; listing = search (listing_start, rules) }
