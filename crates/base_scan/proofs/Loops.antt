@@ -8,13 +8,7 @@ use native.Mathlib.Numerals.{add-one}
 use native.Mathlib.Omega.{arith}
 use lib.ListN.{length, drop, get_or, length-drop, drop_of_length-le}
 use lib.Seq.{drop-cons}
-use Rattle.std.specs.Prelude.{fold}
 use lib.Dec.{eqb, ltb}
-use lib.Bits.{bit_or, or_zero_r, or_add_and, and_le_l}
-use borrow.Author.Tests.{eqb-true, eqb-false, ne_eqb}
-use Rattle.base_scan.specs.Words.{unused}
-use Rattle.base_lists.proofs.Choice.{split}
-use Rattle.base_lists.proofs.Tests.{and_no}
 use Rattle.base_lists.specs.Lists.{mem, rising, subset, disjoint}
 use Rattle.base_lists.specs.Tests.{every}
 use Rattle.base_scan.proofs.Tests.{is_in, not_in, subset_every, disjoint_every}
@@ -58,20 +52,6 @@ module _ (t : ℕ → Bool) where
     pub every_end : length s ≤ i → ok ≡ whole
     unfolding every
     every_end h = sym (left_end (Every t) v h ∙ and-true ok)
-
--- ---- the same by the bits of all words
-
-zero_or : (a b : ℕ) → eqb (bit_or a b) 0 ≡ (eqb a 0 && eqb b 0)
-zero_or a b =
-    split (eqb b 0)
-    (λ t. let z : b ≡ 0 = eqb-true b 0 t in rw (t, z, or_zero_r a) (sym (and-true (eqb a 0))))
-    (λ t. let n : b ≡ 0 → ⊥ = eqb-false b 0 t in
-    rw t (ne_eqb (bit_or a b) 0 (λ e. n (omega (arith, or_add_and a b, and_le_l a b))) ∙ sym (and_no (eqb a 0))))
-
-pub all_bits : (bits : ℕ) (l : List ℕ) → eqb (fold bit_or bits l) 0 ≡ (eqb bits 0 && every unused l)
-unfolding every
-all_bits bits [] = sym (and-true (eqb bits 0))
-all_bits bits (x ∷ l) = all_bits (bit_or bits x) l ∙ rw (zero_or bits x) (and_assoc (eqb bits 0) (eqb x 0) (every unused l))
 
 -- ---- a word is among them
 

@@ -1,14 +1,13 @@
 -- The rows of a queue's words: eight words each, behind the count.
 -- Assumes nothing.
 use Prim.Native.Nat.{ℕ, zero, suc, ◌+◌, ◌*◌, ◌<◌}
-use mathlib.Core.Path.{◌≡◌, refl, sym, ap, ◌∙◌}
-use mathlib.Core.Bool.{Bool, ◌&&◌, and-true, and_assoc}
+use mathlib.Core.Path.{◌≡◌, refl, ap, ◌∙◌}
+use mathlib.Core.Bool.{Bool, ◌&&◌}
 use mathlib.Core.List.{List, [], ◌∷◌}
 use native.Mathlib.Nat.{add-zero}
 use native.Mathlib.Omega.{arith}
 use lib.ListN.{get_or, take, drop}
 use lib.Seq.{drop-drop, get_or-drop}
-use Rattle.std.specs.Prelude.{fold}
 use Rattle.std.specs.List.{list_all}
 use Rattle.std.specs.Simd.{first_chunks}
 use Rattle.std.proofs.lemmas.List.{get_or-take}
@@ -48,19 +47,6 @@ chunk_at (suc n) (suc i) xs d h =
 -- row i
 pub row_is : (n i : ℕ) (ws d : List ℕ) → i < n → get_or (first_chunks 8 n (drop 1 ws)) i d ≡ take 8 (drop (1 + 8 * i) ws)
 row_is n i ws d h = chunk_at n i (drop 1 ws) d h ∙ ap (take 8) (drop-drop (8 * i) 1 ws)
-
-pub all_is : {A : Type 0} (t : A → Bool) (xs : List A) → list_all t xs ≡ every t xs
-unfolding every
-all_is t [] = refl
-all_is t (x ∷ xs) = ap (λ (b : Bool). t x && b) (all_is t xs)
-
-folded : {A : Type 0} (t : A → Bool) (ok : Bool) (xs : List A) → fold (λ (b : Bool) (x : A). b && t x) ok xs ≡ (ok && list_all t xs)
-folded t ok [] = sym (and-true ok)
-folded t ok (x ∷ xs) = folded t (ok && t x) xs ∙ and_assoc ok (t x) (list_all t xs)
-
--- to test each item on the way is to test every item
-pub all_on_the_way : {A : Type 0} (t : A → Bool) (ok : Bool) (xs : List A) → fold (λ (b : Bool) (x : A). b && t x) ok xs ≡ (ok && every t xs)
-all_on_the_way t ok xs = folded t ok xs ∙ ap (λ (b : Bool). ok && b) (all_is t xs)
 
 -- the test of every row is that of every entry
 pub rows_test : (m n : ℕ) (ws : List ℕ) (at : ℕ) → n < m + 1

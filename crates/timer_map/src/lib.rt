@@ -178,12 +178,14 @@ fn queue_entries_ok(q: &[u64], n: usize) -> bool
 }
 
 // Whether the words from place `from` on are zero.
+// One copy for all callers: inlined, the loop takes up to twice the time where its jump ends at a multiple of 32 bytes.
+#[inline(never)]
 fn unused_from(q: &[u64], from: usize) -> bool
     requires { from ≤ length q.now }
     ensures { result ≡ every unused_word (drop from q.now) }
 {
     // Every word is looked at, since the compiler makes vector code of that, and none of `all`.
-    q[from..].iter().fold(true, |ok, w| ok & (*w == 0))
+    q[from..].iter().fold(0, |bits, w| bits | w) == 0
 }
 
 // Whether the words keep the queue's own rules.

@@ -7,8 +7,8 @@ use lib.Dec.{eqb}
 use borrow.Author.Rules.{rules}
 use Rattle.std.specs.Prelude.{fold}
 use Rattle.base_lists.specs.Tests.{every}
+use Rattle.base_lists.proofs.Bits.{all_bits}
 use Rattle.base_scan.specs.Words.{unused}
-use Rattle.base_scan.proofs.Loops.{all_bits}
 use Rattle.base_util.proofs.Parts.{slice_lent}
 use Rattle.base_util.proofs.zero_from.Goals as goal
 

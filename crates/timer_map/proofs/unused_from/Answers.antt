@@ -1,17 +1,23 @@
--- The chain tests each word from there on, as the definition does.
-use Prim.Native.Nat.{ℕ}
-use mathlib.Core.Bool.{Bool, true, ◌&&◌}
-use Rattle.std.proofs.Common.{rules, tests, arith, ap, ◌∙◌}
+-- The bits of all words together are none where each word is zero.
+use Prim.Native.Nat.{◌-◌}
+use mathlib.Core.Path.{◌≡◌, ap, ◌∙◌}
+use lib.ListN.{length, take, drop}
+use lib.Bits.{bit_or}
+use lib.Dec.{eqb}
+use borrow.Author.Rules.{rules}
+use Rattle.std.proofs.Common.{arith}
 use Rattle.std.proofs.Math.Seq.{take_all}
 use Rattle.std.proofs.lemmas.List.{length-drop}
-use Rattle.std.proofs.lemmas.Iterator.{YieldsList-from_slice}
-use Rattle.std.proofs.lemmas.Iterator.Consumers.{fold_from_yields_List}
+use Rattle.std.specs.Prelude.{fold}
 use Rattle.base_lists.specs.Tests.{every}
+use Rattle.base_lists.proofs.Bits.{all_bits}
 use Rattle.timer_map.specs.Words.{unused_word}
-use Rattle.timer_map.proofs.Chunks.{all_on_the_way}
 use Rattle.timer_map.proofs.unused_from.Goals as goal
 
 pub returns : goal.returns
 returns c =
-    fold_from_yields_List _ (λ (ok : Bool) (w : ℕ). ok && unused_word w) true c.fold.result c.fold.ensures.ran (YieldsList-from_slice _ c.iter.ensures.rest) (λ a x b q k. search (rules, tests))
-    ∙ all_on_the_way unused_word true _ ∙ ap (every unused_word) (take_all _ _ (omega (arith, length-drop c.args.from c.args.q.now)))
+    let l = drop c.args.from c.args.q.now in
+    let n = length c.args.q.now - c.args.from in
+    let bits : c.fold.result ≡ fold bit_or 0 (take n l) = search rules in
+    let whole : take n l ≡ l = take_all n l (omega (arith, length-drop c.args.from c.args.q.now)) in
+    ap (λ (b : _). eqb b 0) bits ∙ all_bits 0 (take n l) ∙ ap (every unused_word) whole
