@@ -178,7 +178,7 @@ fn queue_entries_ok(q: &[u64], n: usize) -> bool
 }
 
 // Whether the words from place `from` on are zero.
-// One copy for all callers: inlined, the loop takes up to twice the time where its jump ends at a multiple of 32 bytes.
+// One copy for all callers: inlined, its time hangs on where the linker lays each of them.
 #[inline(never)]
 fn unused_from(q: &[u64], from: usize) -> bool
     requires { from ≤ length q.now }
